@@ -1,0 +1,15 @@
+pub mod Ring
+pub mod Integers
+pub mod Fractions
+pub mod Field
+pub mod Linear
+pub mod Order
+pub mod Elimination
+pub mod Solve
+pub mod Inequalities
+pub mod Compare
+pub mod Coprime
+pub mod Between
+pub mod Lists
+pub mod Rows
+pub mod Pivot

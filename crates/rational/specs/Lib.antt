@@ -1,0 +1,7 @@
+pub mod Gcd
+pub mod Divisors
+pub mod Lowest
+pub mod Rational
+pub mod Lists
+pub mod Rows
+pub mod Segment
