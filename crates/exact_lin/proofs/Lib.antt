@@ -1,0 +1,6 @@
+pub mod Steps
+pub mod Euclid
+pub mod Product
+pub mod Sum
+pub mod Parts
+pub mod Numbers
