@@ -4,3 +4,5 @@ pub mod Product
 pub mod Sum
 pub mod Parts
 pub mod Numbers
+pub mod Widths
+pub mod Results

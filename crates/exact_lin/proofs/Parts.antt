@@ -30,10 +30,10 @@ back-unsigned d h = omega (arith, ints)
 pub back-is : (z : ℤ) → Within wide_limit z → back z ≡ z
 back-is z h = to_z-of_z (within-fits z h)
 
-pub num-is : (n : ℤ) (d : ℕ) (q : ℚ) → IsFraction wide_limit n d → ratio n d ≡ q → n ≡ q.num
+pub num-is : {limit : ℕ} (n : ℤ) (d : ℕ) (q : ℚ) → IsFraction limit n d → ratio n d ≡ q → n ≡ q.num
 num-is n d q i e = sym (ratio-num n d i.lowest) ∙ ap (λ (x : ℚ). x.num) e
 
-pub den-is : (n : ℤ) (d : ℕ) (q : ℚ) → IsFraction wide_limit n d → ratio n d ≡ q → d ≡ q.den
+pub den-is : {limit : ℕ} (n : ℤ) (d : ℕ) (q : ℚ) → IsFraction limit n d → ratio n d ≡ q → d ≡ q.den
 den-is n d q i e = sym (ratio-den n d i.lowest) ∙ ap (λ (x : ℚ). x.den) e
 
 pub back-num : (n : ℤ) (d : ℕ) (q : ℚ) → IsFraction wide_limit n d → ratio n d ≡ q → back n ≡ q.num
@@ -55,7 +55,7 @@ made x t k b fits v e f i r h = record {
     back-t : back x ≡ t
     back-t = ap back e ∙ back-is t i.numerator
 
-over-within : (limit : ℕ) (n : ℤ) (g : ℕ) → Within limit n → Within limit (over n g)
+pub over-within : (limit : ℕ) (n : ℤ) (g : ℕ) → Within limit n → Within limit (over n g)
 over-within limit n g s = omega (arith, abs-over n g, div-le_self (nat_abs n) g)
 
 module _ (n m : ℤ) (d e : ℕ) (q r : ℚ) (i : IsFraction wide_limit n d) (v : ratio n d ≡ q) (j : IsFraction wide_limit m e) (w : ratio m e ≡ r) where
@@ -85,5 +85,6 @@ module _ (n m : ℤ) (d e : ℕ) (q r : ℚ) (i : IsFraction wide_limit n d) (v 
   unfolding cmp_ℚ
   cmp-made o h = at_values (λ a b c d. o ≡ int_cmp (a *ℤ pos d) (c *ℤ pos b)) h
 
-  pub eq-made : (o p : Bool) → p ≡ int_eq n m → o ≡ (p && nat_eq d e) → o ≡ (int_eq q.num r.num && nat_eq q.den r.den)
-  eq-made o p f g = g ∙ ap₂ ◌&&◌ (f ∙ ap₂ int_eq (num-is n d q i v) (num-is m e r j w)) (ap₂ nat_eq (den-is n d q i v) (den-is m e r j w))
+-- what the derived `==` says
+pub eq-made : {limit : ℕ} (n m : ℤ) (d e : ℕ) (q r : ℚ) → IsFraction limit n d → ratio n d ≡ q → IsFraction limit m e → ratio m e ≡ r → (o p : Bool) → p ≡ int_eq n m → o ≡ (p && nat_eq d e) → o ≡ (int_eq q.num r.num && nat_eq q.den r.den)
+eq-made n m d e q r i v j w o p f g = g ∙ ap₂ ◌&&◌ (f ∙ ap₂ int_eq (num-is n d q i v) (num-is m e r j w)) (ap₂ nat_eq (den-is n d q i v) (den-is m e r j w))

@@ -9,7 +9,7 @@ ghost use Rattle.exact_lin.specs.Reckoning.{wide_limit, narrow_limit, IsFraction
 ghost use Rattle.exact_lin.specs.Signs.{MatchSign};
 
 use crate::reckoning::{divided, greatest, order_of, product_of, sum_of};
-use crate::scalars::{Sign, Wide};
+use crate::scalars::{Scalar, Sign, Wide};
 use std::cmp::Ordering;
 use std::marker::Model;
 
@@ -42,6 +42,41 @@ impl Model for Fraction {
     ghost inverse = { λ q. record { num = q.num; den = q.den } };
 
     ghost inverse_ok = { λ f h i. record { num = ratio-num f.num f.den h.lowest i; den = ratio-den f.num f.den h.lowest i } };
+}
+
+/// An exact fraction in lowest terms. Its denominator is at least 1, and neither part is past 2^63 - 1.
+#[derive(Clone, Copy, Debug, PartialEq, Eq)]
+pub struct Narrow {
+    num: i64,
+    den: u64,
+}
+
+impl Model for Narrow {
+    ghost use Rattle.rational.specs.Rational.{ℚ, ratio};
+    ghost use Rattle.rational.proofs.Fractions.{ratio-num, ratio-den};
+    ghost use Rattle.exact_lin.specs.Reckoning.{ℚ_code, IsFraction, narrow_limit};
+
+    ghost Value = { ℚ };
+
+    ghost coded = { ℚ_code };
+
+    ghost view = { λ f. ratio f.num f.den };
+
+    ghost invariant = { λ f. IsFraction narrow_limit f.num f.den };
+
+    ghost inverse = { λ q. record { num = q.num; den = q.den } };
+
+    ghost inverse_ok = { λ f h i. record { num = ratio-num f.num f.den h.lowest i; den = ratio-den f.num f.den h.lowest i } };
+}
+
+impl Narrow {
+    /// The same number in parts of 128 bits.
+    pub fn widen(self) -> Fraction
+        ensures value { result ≡ self }
+        ensures fits { Fits narrow_limit self }
+    {
+        Fraction::made(self.num as i128, self.den as u128)
+    }
 }
 
 impl Fraction {
@@ -136,7 +171,8 @@ impl Fraction {
     }
 
     pub(crate) fn sign_of(self) -> Sign
-        ensures { MatchSign result self }
+        ensures sign { MatchSign result self }
+        ensures fits { Fits wide_limit self }
     {
         if self.num < 0 {
             Sign::Minus
@@ -153,4 +189,77 @@ impl Fraction {
     {
         order_of(self.num, self.den, other.num, other.den)
     }
+
+    /// The same number in parts of 64 bits, or None where a part is past 2^63 - 1.
+    pub fn narrow(self) -> Option<Narrow>
+        ensures { SomeIff result (Fits narrow_limit self) self }
+    {
+        if self.num.unsigned_abs() <= NARROW_LIMIT && self.den <= NARROW_LIMIT {
+            Some(self.narrowed())
+        } else {
+            None
+        }
+    }
+
+    fn narrowed(self) -> Narrow
+        requires { Fits narrow_limit self }
+        ensures { result ≡ self }
+    {
+        Narrow {
+            num: self.num as i64,
+            den: self.den as u64,
+        }
+    }
+}
+
+impl Scalar for Fraction {
+    ghost use Rattle.std.specs.Prelude.{refl};
+    ghost use Rattle.rational.specs.Rational.{ℚ};
+    ghost use Rattle.exact_lin.specs.Reckoning.{wide_limit};
+    ghost use Rattle.exact_lin.specs.Scalars.{parts-decide};
+    ghost use Rattle.exact_lin.specs.Limits.{CanAdd-larger, CanMultiply-larger, narrow-below_wide};
+
+    ghost value = { λ q. q };
+
+    ghost limit = { wide_limit };
+
+    fn of_int(n: i32) -> Fraction {
+        Fraction::of_whole(n)
+    }
+
+    fn add(self, other: Fraction) -> Result<Fraction, Wide> {
+        self.sum_within(other, WIDE_LIMIT)
+    }
+
+    fn mul(self, other: Fraction) -> Result<Fraction, Wide> {
+        self.product_within(other, WIDE_LIMIT)
+    }
+
+    fn neg(self) -> Fraction {
+        self.negative()
+    }
+
+    fn recip(self) -> Fraction {
+        self.reciprocal()
+    }
+
+    fn sign(self) -> Sign {
+        self.sign_of()
+    }
+
+    fn cmp(self, other: Fraction) -> Ordering {
+        self.order(other)
+    }
+
+    ghost distinct = { λ x y e. e };
+
+    ghost decides = { parts-decide };
+
+    ghost narrow_sums = { λ x y. CanAdd-larger _ _ narrow-below_wide x y };
+
+    ghost narrow_products = { λ x y. CanMultiply-larger _ _ narrow-below_wide x y };
+
+    ghost wide_sums = { λ x y h. h };
+
+    ghost wide_products = { λ x y h. h };
 }

@@ -8,5 +8,5 @@ mod fractions;
 mod reckoning;
 mod scalars;
 
-pub use fractions::Fraction;
-pub use scalars::{Sign, Wide};
+pub use fractions::{Fraction, Narrow};
+pub use scalars::{Scalar, Sign, Wide};
