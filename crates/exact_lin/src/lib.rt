@@ -5,8 +5,12 @@
 #![tactic(auto)]
 
 mod fractions;
+mod id_vec;
+mod ids;
 mod reckoning;
 mod scalars;
 
 pub use fractions::{Fraction, Narrow};
+pub use id_vec::IdVec;
+pub use ids::{ActionId, FactId, FluentId, Id, RowId, SnapId, StepId, TermId, TokenId, VarId};
 pub use scalars::{Scalar, Sign, Wide};
