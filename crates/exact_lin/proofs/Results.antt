@@ -1,12 +1,14 @@
 -- The results of a reckoning keep to its limit.
-use Rattle.std.proofs.Common.{◌≡◌, ◌≢◌, ℕ, zero, suc, ◌≤◌, ◌<◌, sym, ◌∙◌, ap, subst, arith, refl, ℤ, pos, negsuc, ◌*ℤ◌, ◌-ℤ◌}
+use Rattle.std.proofs.Common.{◌≡◌, ◌≢◌, ℕ, zero, suc, ◌≤◌, ◌<◌, sym, ◌∙◌, ap, subst, arith, refl, ℤ, pos, negsuc, ◌*ℤ◌, ◌+ℤ◌, ◌-ℤ◌, ◌/◌, ◌*◌}
 use Rattle.std.proofs.Math.IntN.{neg_ℤ, nat_abs}
 use Rattle.std.proofs.lemmas.Int.{ints, by_lt_z}
-use native.Mathlib.Nat.{div-le_self}
+use native.Mathlib.Nat.{div-le_self, dvd_refl, one-dvd}
+use Rattle.rational.specs.Gcd.{gcd}
+use Rattle.rational.specs.Divisors.{gcd-from-is}
 use Rattle.rational.specs.Lowest.{over, abs-over, lowest_out}
 use Rattle.rational.specs.Rational.{ℚ, ratio, whole, zeroℚ, ◌+ℚ◌, ◌*ℚ◌, neg_ℚ, inverse}
 use Rattle.rational.proofs.Fractions.{ratio-num, ratio-den, den_pos}
-use Rattle.exact_lin.specs.Reckoning.{wide_limit, IsFraction, Fits, Within, CanAdd, CanMultiply, sum_numerator, sum_denominator, product_numerator, product_denominator, both_terms, shared_factor}
+use Rattle.exact_lin.specs.Reckoning.{wide_limit, IsFraction, Fits, Within, SumFits, CanAdd, CanMultiply, sum_numerator, sum_denominator, product_numerator, product_denominator, both_terms, shared_factor}
 use Rattle.exact_lin.proofs.Parts.{over-within}
 use Rattle.exact_lin.proofs.Sum.{sum-lowest, sum-value}
 use Rattle.exact_lin.proofs.Product.{product-lowest, product-value}
@@ -61,3 +63,26 @@ fits-inverse limit q n f = by_lt_z q.num (pos 0)
 
     turned : IsFraction limit (pos q.den) (nat_abs q.num)
     turned = turned-fraction q.num q.den (nat_abs q.num) (parts-of limit q f) refl (size q.num (λ e. n (zero_num q e)))
+
+-- the reckoning of 0 and n / d
+zero_sum : (limit : ℕ) (n : ℤ) (d : ℕ) → Within limit n → d ≤ limit → 0 < d → SumFits limit (pos 0) 1 n d
+zero_sum limit n d w l h = record {
+  left = omega (arith, ints);
+  right = subst (λ (g : ℕ). Within limit (n *ℤ pos (1 / g))) (sym one) (omega (arith, ints, w));
+  both = subst (λ (g : ℕ). Within limit (pos 0 *ℤ pos (d / g) +ℤ n *ℤ pos (1 / g))) (sym one) (omega (arith, ints, w));
+  denominator = subst (λ (g : ℕ). (1 / g) * (d / shared_factor (pos 0) 1 n d) ≤ limit) (sym one) (omega (arith, div-le_self d (shared_factor (pos 0) 1 n d)));
+}
+  where
+    one : gcd 1 d ≡ 1
+    one = gcd-from-is 1 d 1 (dvd_refl 1, one-dvd d, λ k p q. p)
+
+-- 0 and a number that keeps to the limit have a sum
+pub CanAdd-zero : (limit : ℕ) (q : ℚ) → Fits limit q → CanAdd limit zeroℚ q
+unfolding whole
+CanAdd-zero limit q f =
+    subst (λ (z : ℤ). SumFits limit z (ratio (pos 0) 1).den q.num q.den) (sym (ratio-num (pos 0) 1 zero.lowest))
+    (subst (λ (d : ℕ). SumFits limit (pos 0) d q.num q.den) (sym (ratio-den (pos 0) 1 zero.lowest))
+    (zero_sum limit q.num q.den f.numerator f.denominator (den_pos q)))
+  where
+    zero : IsFraction wide_limit (pos 0) 1
+    zero = whole-fraction wide_limit (pos 0) (omega arith) (omega arith)

@@ -3,3 +3,4 @@ pub mod Signs
 pub mod Limits
 pub mod Scalars
 pub mod Ids
+pub mod Forms
