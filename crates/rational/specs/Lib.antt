@@ -5,3 +5,4 @@ pub mod Rational
 pub mod Lists
 pub mod Rows
 pub mod Segment
+pub mod Laws
