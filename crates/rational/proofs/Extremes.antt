@@ -1,10 +1,11 @@
 -- The lesser and the greater of two numbers are one of them.
-use Rattle.std.proofs.Common.{◌≡◌, refl, Less, Equal, Greater}
+use Rattle.std.proofs.Common.{◌≡◌, refl, sym, ⊎_elim, Less, Equal, Greater}
 use Rattle.std.specs.Ordering.{MatchOrdering, match_ordering}
 use Rattle.std.specs.declared.cmp.Ordering.{Ordering}
 use Rattle.rational.specs.Rational.{ℚ, ◌≤ℚ◌, ◌<ℚ◌, cmp_ℚ}
 use Rattle.rational.specs.Extremes.{min_ℚ, max_ℚ}
-use Rattle.rational.proofs.Inequalities.{lt_not_leℚ}
+use Rattle.rational.proofs.Order.{le_or_gt, lt_leℚ}
+use Rattle.rational.proofs.Inequalities.{lt_not_leℚ, eq_leℚ, le_transℚ}
 use Rattle.rational.proofs.Compare.{ranksℚ}
 
 pub min-left : (q r : ℚ) → q ≤ℚ r → min_ℚ q r ≡ q
@@ -42,3 +43,15 @@ max-right q r h = go (cmp_ℚ q r) (ranksℚ q r)
     go Less m = refl
     go Equal m = m
     go Greater m = absurd (lt_not_leℚ r q m h)
+
+pub min-le_left : (q r : ℚ) → min_ℚ q r ≤ℚ q
+min-le_left q r = ⊎_elim (λ h. eq_leℚ (min_ℚ q r) q (min-left q r h)) (λ h. le_transℚ (min_ℚ q r) r q (eq_leℚ (min_ℚ q r) r (min-right q r (lt_leℚ r q h))) (lt_leℚ r q h)) (le_or_gt q r)
+
+pub min-le_right : (q r : ℚ) → min_ℚ q r ≤ℚ r
+min-le_right q r = ⊎_elim (λ h. le_transℚ (min_ℚ q r) q r (eq_leℚ (min_ℚ q r) q (min-left q r h)) h) (λ h. eq_leℚ (min_ℚ q r) r (min-right q r (lt_leℚ r q h))) (le_or_gt q r)
+
+pub max-le_left : (q r : ℚ) → q ≤ℚ max_ℚ q r
+max-le_left q r = ⊎_elim (λ h. le_transℚ q r (max_ℚ q r) h (eq_leℚ r (max_ℚ q r) (sym (max-right q r h)))) (λ h. eq_leℚ q (max_ℚ q r) (sym (max-left q r (lt_leℚ r q h)))) (le_or_gt q r)
+
+pub max-le_right : (q r : ℚ) → r ≤ℚ max_ℚ q r
+max-le_right q r = ⊎_elim (λ h. eq_leℚ r (max_ℚ q r) (sym (max-right q r h))) (λ h. le_transℚ r q (max_ℚ q r) (lt_leℚ r q h) (eq_leℚ q (max_ℚ q r) (sym (max-left q r (lt_leℚ r q h))))) (le_or_gt q r)

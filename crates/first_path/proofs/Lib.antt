@@ -1,0 +1,4 @@
+pub mod Bounds
+pub mod Segments
+pub mod States
+pub mod Verdicts

@@ -1,0 +1,11 @@
+//! Tasks of one fluent and one durative action, and plans of one line: what such a plan means, and a validator
+//! that decides it exactly.
+#![tactic(auto)]
+
+mod model;
+mod numbers;
+mod reckoned;
+mod validator;
+
+pub use model::{Bound, Direction, PlanLine, Reason, Rules, Side, Task, Undefined, Verdict};
+pub use validator::validate;
