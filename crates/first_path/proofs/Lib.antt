@@ -2,3 +2,4 @@ pub mod Bounds
 pub mod Segments
 pub mod States
 pub mod Verdicts
+pub mod Uniqueness

@@ -1,5 +1,8 @@
 //! The task, the plan line, and what a validator answers.
 
+ghost use Rattle.std.specs.Prelude.{◌≡◌, pos};
+ghost use Rattle.rational.specs.Rational.{ratio};
+
 use exact_lin::Fraction;
 
 /// The side of a number on which a value has to be.
@@ -50,6 +53,19 @@ pub struct PlanLine {
 pub struct Rules {
     pub epsilon: Fraction,
     pub horizon: Fraction,
+}
+
+impl Rules {
+    /// Epsilon is 1/1000, and the horizon 1,000,000.
+    pub fn standard() -> Rules
+        ensures epsilon { result.epsilon ≡ ratio (pos 1) 1000 }
+        ensures horizon { result.horizon ≡ ratio (pos 1000000) 1 }
+    {
+        Rules {
+            epsilon: Fraction::of_parts(1, 1000).unwrap(),
+            horizon: Fraction::of_parts(1_000_000, 1).unwrap(),
+        }
+    }
 }
 
 /// Why a plan is not valid. The earlier variants come first.
