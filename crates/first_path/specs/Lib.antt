@@ -2,3 +2,4 @@ pub mod Meaning
 pub mod Validity
 pub mod Course
 pub mod Laws
+pub mod Grammar

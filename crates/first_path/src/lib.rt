@@ -2,6 +2,7 @@
 //! that decides it exactly.
 #![tactic(auto)]
 
+mod grammar;
 mod laws;
 mod model;
 mod numbers;
