@@ -14,3 +14,4 @@ pub mod Rows
 pub mod Compare
 pub mod Coprime
 pub mod Pivot
+pub mod Extremes
