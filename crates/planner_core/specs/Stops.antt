@@ -1,5 +1,5 @@
 -- What a stop of the work stands for.
-use Rattle.std.specs.Prelude.{ℕ, Option, Some, None, Result, Ok, Err, Vec, string_bytes}
+use Rattle.std.specs.Prelude.{ℕ, Option, Some, None, Result, Ok, Err, Vec}
 use Rattle.std.specs.declared.alloc.AllocError.{AllocError}
 use Rattle.std.specs.declared.alloc.Global.{Global}
 use Rattle.outside.specs.Fetching.{Answer}
@@ -23,7 +23,7 @@ answer_seen (Err stop) = Err (why_of stop)
 
 -- the reply that a stop gives
 abbrev pub stop_said : Stop → Option Said
-stop_said (stop.Fault text) = Some (record { status = ReadFault; text = string_bytes text })
+stop_said (stop.Fault text) = Some (record { status = ReadFault; text = text.items })
 stop_said (stop.Long role count) = Some (too_long role count)
 stop_said stop.Memory = None
 

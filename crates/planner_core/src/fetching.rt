@@ -12,7 +12,7 @@ use std::alloc::{AllocError, Global};
 #[derive(Drop)]
 pub enum Stop {
     /// A fetch failed. The text of the reply that says so.
-    Fault(String),
+    Fault(Vec<u8>),
     /// A file is too long; this many of its bytes were taken.
     Long(Role, u64),
     Memory,

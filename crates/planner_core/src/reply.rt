@@ -1,4 +1,4 @@
-ghost use Rattle.std.specs.Prelude.{◌≡◌, IfOk, Some, string_bytes};
+ghost use Rattle.std.specs.Prelude.{◌≡◌, IfOk, Some};
 ghost use Rattle.planner_core.specs.Replies.{role_word, usage, read_fault, too_long};
 
 use crate::status::Status;
@@ -30,21 +30,20 @@ impl fmt::Display for Role {
 #[derive(Drop)]
 pub struct Reply {
     status: Status,
-    text: String,
+    text: Vec<u8>,
 }
 
 impl Model for Reply {
-    ghost use Rattle.std.specs.Prelude.{string_bytes};
     ghost use Rattle.planner_core.specs.Replies.{Said};
 
     ghost Value = { Said };
 
-    ghost view = { λ reply. record { status = reply.status; text = string_bytes reply.text } };
+    ghost view = { λ reply. record { status = reply.status; text = reply.text.items } };
 }
 
 impl Reply {
-    pub fn new(status: Status, text: String) -> Reply
-        ensures { result ≡ record { status = status; text = string_bytes text } }
+    pub fn new(status: Status, text: Vec<u8>) -> Reply
+        ensures { result ≡ record { status = status; text = text.items } }
     {
         Reply { status, text }
     }
@@ -56,7 +55,7 @@ impl Reply {
     }
 
     /// The text, each line ended by a line feed.
-    pub fn text(&self) -> &str
+    pub fn text(&self) -> &[u8]
         ensures { result.now ≡ self.now.text }
     {
         &self.text
@@ -67,15 +66,15 @@ impl Reply {
 pub fn usage_reply(alloc: Global) -> Result<Reply, AllocError>
     ensures { IfOk result (λ reply. reply ≡ usage) }
 {
-    let text = "usage: fluxplan validate or schedule or plan or check or demo\n";
-    Ok(Reply::new(Status::Usage, String::from_str(alloc, text)?))
+    let text = b"usage: fluxplan validate or schedule or plan or check or demo\n";
+    Ok(Reply::new(Status::Usage, Vec::from_slice(alloc, text)?))
 }
 
 /// The text of the reply to a fetch that failed.
-pub fn read_fault_text(alloc: Global, name: &str) -> Result<String, AllocError>
-    ensures { IfOk result (λ text. string_bytes text ≡ (read_fault name.now).text) }
+pub fn read_fault_text(alloc: Global, name: &str) -> Result<Vec<u8>, AllocError>
+    ensures { IfOk result (λ text. text.items ≡ (read_fault name.now).text) }
 {
-    format!(in alloc; "read fault {name}\n")
+    Ok(format!(in alloc; "read fault {name}\n")?.into_bytes())
 }
 
 /// The reply to a file that is too long; `count` bytes of it were taken.
@@ -83,5 +82,5 @@ pub fn too_long_reply(alloc: Global, role: Role, count: u64) -> Result<Reply, Al
     ensures { IfOk result (λ reply. reply ≡ too_long role count) }
 {
     let text = format!(in alloc; "refused {role} Long {count}\n")?;
-    Ok(Reply::new(Status::Refused, text))
+    Ok(Reply::new(Status::Refused, text.into_bytes()))
 }

@@ -46,7 +46,7 @@ pub fn run_over<P: Planner, D: Desk, K: Sink>(
     let Ok(reply) = reply_to(alloc, planner, words, desk) else {
         return Status::NoMemory;
     };
-    match sink.put(reply.text().as_bytes()) {
+    match sink.put(reply.text()) {
         Ok(()) => reply.status(),
         Err(_) => Status::WriteFault,
     }

@@ -23,7 +23,7 @@ impl Planner for Easy {
         _problem: &[u8],
         _plan: &[u8],
     ) -> Result<Reply, AllocError> {
-        let text = String::from_str(alloc, "valid cost 5.000\n")?;
+        let text = Vec::from_slice(alloc, b"valid cost 5.000\n")?;
         Ok(Reply::new(Status::Done, text))
     }
 }
