@@ -1,0 +1,4 @@
+pub mod Reckoning
+pub mod Signs
+pub mod Limits
+pub mod Scalars

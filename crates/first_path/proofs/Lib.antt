@@ -1,0 +1,5 @@
+pub mod Bounds
+pub mod Segments
+pub mod States
+pub mod Verdicts
+pub mod Uniqueness
