@@ -42,3 +42,10 @@ module _ (T R S : Type 0) where
   pub length-leaf_counts : (cs : List (DualTree T R S)) → length cs ≤ sum_by leaf_count cs
   length-leaf_counts [] = omega arith
   length-leaf_counts (c ∷ cs) = omega (arith, leaf_count-pos c, length-leaf_counts cs, sum_by-cons leaf_count c cs)
+
+  pub leaf_count-some : (part : DualTree T R S) (t : T) (children : List (DualTree T R S)) → part ≡ tree.Split t children → children ≡ [] → leaf_count part ≡ 1
+  leaf_count-some part t children e f = ap leaf_count e ∙ ap (λ (cs : List (DualTree T R S)). leaf_count (tree.Split t cs)) f ∙ leaf_count-no_child t
+
+  pub leaf_count-sum : (part : DualTree T R S) (t : T) (children given : List (DualTree T R S)) → part ≡ tree.Split t children → ¬ (children ≡ []) → given ≡ children → sum_by leaf_count given ≡ leaf_count part
+  leaf_count-sum part t [] given e n f = absurd (n refl)
+  leaf_count-sum part t (c ∷ cs) given e n f = ap (sum_by leaf_count) f ∙ sym (leaf_count-children t c cs) ∙ ap leaf_count (sym e)

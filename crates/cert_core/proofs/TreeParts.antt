@@ -20,7 +20,7 @@ use Rattle.cert_core.proofs.Judging.{ComesDownTo, ComesDownTo-itself, ComesDownT
 use Rattle.cert_core.proofs.Leaves.{leaves_of-split, leaves_of-none, leaves_of-at_least, each_tree}
 use Rattle.cert_core.proofs.Counting.{leaf_count-no_child, leaf_count-children, leaf_count-none, leaf_count-at_least}
 
-drop_all : {X : Type 0} (xs : List X) (n : ℕ) → length xs ≤ n → drop n xs ≡ []
+pub drop_all : {X : Type 0} (xs : List X) (n : ℕ) → length xs ≤ n → drop n xs ≡ []
 drop_all [] zero h = refl
 drop_all [] (suc n) h = refl
 drop_all (x ∷ xs) zero h = absurd (omega arith)
