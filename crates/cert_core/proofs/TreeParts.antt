@@ -26,7 +26,7 @@ drop_all [] (suc n) h = refl
 drop_all (x ∷ xs) zero h = absurd (omega arith)
 drop_all (x ∷ xs) (suc n) h = drop_all xs n (omega arith)
 
-drop_item : {X : Type 0} (xs : List X) (n : ℕ) (x : X) → n < length xs → x ≡ get_or xs n x → drop n xs ≡ x ∷ drop (n + 1) xs
+pub drop_item : {X : Type 0} (xs : List X) (n : ℕ) (x : X) → n < length xs → x ≡ get_or xs n x → drop n xs ≡ x ∷ drop (n + 1) xs
 drop_item xs n x h e = drop-cons xs n x h ∙ ap (λ y. y ∷ drop (suc n) xs) (sym e) ∙ (let next : suc n ≡ n + 1 = omega arith in ap (λ (k : ℕ). x ∷ drop k xs) next)
 
 -- ---- a leaf's duties, each named with the leaf's number
@@ -34,7 +34,7 @@ pub AllMet-at_leaf : (n : ℕ) (ds : List (Duty (CertFault ℕ ℕ))) → AllMet
 AllMet-at_leaf n [] h = tt
 AllMet-at_leaf n (d ∷ ds) h = (h.0, AllMet-at_leaf n ds h.1)
 
-IsFirstUnmet-at_leaf : (n : ℕ) (ds : List (Duty (CertFault ℕ ℕ))) (f : CertFault ℕ ℕ) → IsFirstUnmet ds f → IsFirstUnmet (map (at_leaf n) ds) (record { leaf = n; fault = f })
+pub IsFirstUnmet-at_leaf : (n : ℕ) (ds : List (Duty (CertFault ℕ ℕ))) (f : CertFault ℕ ℕ) → IsFirstUnmet ds f → IsFirstUnmet (map (at_leaf n) ds) (record { leaf = n; fault = f })
 IsFirstUnmet-at_leaf n [] f u = absurd u
 IsFirstUnmet-at_leaf n (d ∷ ds) f u = ⊎_elim (λ a. inl (a.0, ap (λ (x : CertFault ℕ ℕ). record { leaf = n; fault = x }) a.1)) (λ b. inr (b.0, IsFirstUnmet-at_leaf n ds f b.1)) u
 
@@ -260,3 +260,34 @@ module _ {T R S : Type 0} (term : T → ℕ) (row : R → ℕ) (value : S → �
 
   pub split-countable : (made : Decisions) (part : DualTree T R S) (t : T) (children given : List (DualTree T R S)) → IsLawful p → part ≡ tree.Split t children → given ≡ children → is_fit p made (term t) (length children) ≡ true → sum_by leaf_count given ≡ leaf_count part
   split-countable made part t children given l e f k = ap (sum_by leaf_count) f ∙ sym (split-leaves l made t children k).1 ∙ ap leaf_count (sym e)
+
+  -- ---- below a split that can't be made, every leaf stands for it
+  abbrev AllMisfit : DualTree T R S → Type 0
+  AllMisfit t = (s : ℕ) (made : Decisions) → AllByRecursion (λ (leaf : Leaf). leaf.here ≡ Misfit s) (leaves_of term row value p q t (record { misfit = Some s; made = made }))
+
+  all-append : (s : ℕ) (ls ms : List Leaf) → AllByRecursion (λ (leaf : Leaf). leaf.here ≡ Misfit s) ls → AllByRecursion (λ (leaf : Leaf). leaf.here ≡ Misfit s) ms → AllByRecursion (λ (leaf : Leaf). leaf.here ≡ Misfit s) (ls ++ ms)
+  all-append s [] ms h k = k
+  all-append s (l ∷ ls) ms h k = (h.0, all-append s ls ms h.1 k)
+
+  children-misfit : (s : ℕ) (made : Decisions) (t w : ℕ) (cs : List (DualTree T R S)) → AllByRecursion AllMisfit cs → AllByRecursion (λ (leaf : Leaf). leaf.here ≡ Misfit s) (child_leaves (Some s) made t w (map (leaves_of term row value p q) cs))
+  children-misfit s made t w [] a = tt
+  children-misfit s made t w (c ∷ cs) a = all-append s (leaves_of term row value p q c (record { misfit = Some s; made = decide made t w })) (child_leaves (Some s) made t (w + 1) (map (leaves_of term row value p q) cs)) (a.0 s (decide made t w)) (children-misfit s made t (w + 1) cs a.1)
+
+  all-misfit_split : (t : T) (children : List (DualTree T R S)) → AllByRecursion AllMisfit children → AllMisfit (tree.Split t children)
+  all-misfit_split t [] a s made = subst (λ (f : Above → List Leaf). AllByRecursion (λ (leaf : Leaf). leaf.here ≡ Misfit s) (f (record { misfit = Some s; made = made }))) (sym (leaves_of-split term row value p q t [])) (refl, tt)
+  all-misfit_split t (c ∷ cs) a s made = subst (λ (f : Above → List Leaf). AllByRecursion (λ (leaf : Leaf). leaf.here ≡ Misfit s) (f (record { misfit = Some s; made = made }))) (sym (leaves_of-split term row value p q t (c ∷ cs))) (children-misfit s made (term t) 0 (c ∷ cs) a)
+
+  all-misfit : (t : DualTree T R S) → AllMisfit t
+  all-misfit = each_tree AllMisfit all-misfit_split
+      (λ pairs s made. subst (λ (f : Above → List Leaf). AllByRecursion (λ (leaf : Leaf). leaf.here ≡ Misfit s) (f (record { misfit = Some s; made = made }))) (sym (leaves_of-none term row value p q pairs)) (refl, tt))
+      (λ pairs s made. subst (λ (f : Above → List Leaf). AllByRecursion (λ (leaf : Leaf). leaf.here ≡ Misfit s) (f (record { misfit = Some s; made = made }))) (sym (leaves_of-at_least term row value p q pairs)) (refl, tt))
+
+  each-misfit : (cs : List (DualTree T R S)) → AllByRecursion AllMisfit cs
+  each-misfit [] = tt
+  each-misfit (c ∷ cs) = (all-misfit c, each-misfit cs)
+
+  pub split-all_misfit : (made : Decisions) (t : T) (children : List (DualTree T R S)) → is_fit p made (term t) (length children) ≡ false → AllByRecursion (λ (leaf : Leaf). leaf.here ≡ Misfit (term t)) (leaves_of term row value p q (tree.Split t children) (top made))
+  split-all_misfit made t [] e = subst (λ (f : Above → List Leaf). AllByRecursion (λ (leaf : Leaf). leaf.here ≡ Misfit (term t)) (f (top made))) (sym (leaves_of-split term row value p q t [])) (refl, tt)
+  split-all_misfit made t (c ∷ cs) e = subst (λ (f : Above → List Leaf). AllByRecursion (λ (leaf : Leaf). leaf.here ≡ Misfit (term t)) (f (top made))) (sym (leaves_of-split term row value p q t (c ∷ cs)))
+      (subst (λ (o : Option ℕ). AllByRecursion (λ (leaf : Leaf). leaf.here ≡ Misfit (term t)) (child_leaves o made (term t) 0 (map (leaves_of term row value p q) (c ∷ cs)))) (sym (unfit-below made (term t) (length (map (leaves_of term row value p q) (c ∷ cs))) _ refl (ap (λ (n : ℕ). is_fit p made (term t) n) (length-map_leaves (c ∷ cs)) ∙ e)))
+      (children-misfit (term t) made (term t) 0 (c ∷ cs) (each-misfit (c ∷ cs))))

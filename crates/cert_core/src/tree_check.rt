@@ -5,7 +5,7 @@ ghost use Rattle.cert_core.specs.Checks.{claim_of};
 ghost use Rattle.cert_core.specs.Duties.{Judges, IsFirstUnmet};
 ghost use Rattle.cert_core.specs.Faults.{fault_of, multipliers_of, tree_fault_of};
 ghost use Rattle.cert_core.specs.Soft.{AlwaysCosts, AreDecisions, AreUndecided, decide, decision_of, ways_of};
-ghost use Rattle.cert_core.specs.Trees.{AreLeavesReckoned, ProvesTree, Shows, leaf_duties, leaves_duties, JudgesLeaves, leaves_of, leaf_count, is_fit, child_leaves, top};
+ghost use Rattle.cert_core.specs.Trees.{AreLeavesReckoned, ProvesTree, Shows, leaf_duties, leaves_duties, numbered_duties, JudgesLeaves, leaves_of, leaf_count, is_fit, child_leaves, top};
 
 use crate::check::check;
 use crate::claim::Claim;
@@ -188,6 +188,101 @@ fn check_child<T: Id, R: Id, V: Id, S: Scalar, P: SoftRows<T, R, V, S>>(
     let number = t.number() as usize;
     made[number] = Some(way);
     let answer = check_part(soft, child, cost, made, done);
+    made[number] = None;
+    answer
+}
+
+/// Checks the leaf with this number, counted from 1: below a split that can't be made, the fault `Range` of the term
+/// of the first such split from the root; else the base and the multipliers of the leaf under the decisions above it.
+pub fn check_leaf<T: Id, R: Id, V: Id, S: Scalar, P: SoftRows<T, R, V, S>>(soft: &P, tree: &DualTree<T, R, S>, cost: S, made: &mut [Option<Way>], leaf: u32) -> Result<(), CertFault<R, V>>
+    requires undecided { AreUndecided (P.soft soft.now) made.old }
+    requires countable { leaf_count tree.now < 2 ^ 32 }
+    requires from_one { 1 ≤ leaf }
+    requires in_range { leaf ≤ leaf_count tree.now }
+    ensures judged {
+        Judges result (fault_of R.number_of V.number_of)
+            (numbered_duties S.limit (P.soft soft.now)
+                (leaves_of T.number_of R.number_of S.value (P.soft soft.now) (S.value cost) tree.now (top made.old)) leaf)
+    }
+    ensures made { made.new ≡ made.old }
+{
+    leaf_in(soft, tree, cost, made, leaf - 1)
+}
+
+// The leaf after `skip` others of a part of a tree.
+#[cycle(leaf)]
+fn leaf_in<T: Id, R: Id, V: Id, S: Scalar, P: SoftRows<T, R, V, S>>(soft: &P, tree: &DualTree<T, R, S>, cost: S, made: &mut [Option<Way>], skip: u32) -> Result<(), CertFault<R, V>>
+    requires decisions { AreDecisions (P.soft soft.now) made.old }
+    requires countable { leaf_count tree.now < 2 ^ 32 }
+    requires inside { skip < leaf_count tree.now }
+    ensures made { made.new ≡ made.old }
+    ensures judged {
+        Judges result (fault_of R.number_of V.number_of)
+            (numbered_duties S.limit (P.soft soft.now)
+                (leaves_of T.number_of R.number_of S.value (P.soft soft.now) (S.value cost) tree.now (top made.old)) (skip + 1))
+    }
+{
+    match tree {
+        DualTree::None(row) => check_here(soft, made, row.pairs(), Claim::Empty),
+        DualTree::AtLeast(row) => check_here(soft, made, row.pairs(), Claim::AtLeast(cost)),
+        DualTree::Split(t, children) => {
+            if fits(soft, made, *t, children.len()) {
+                leaf_among(soft, children.as_slice(), cost, made, *t, skip)
+            } else {
+                Err(CertFault::Range(t.number()))
+            }
+        }
+    }
+}
+
+// The leaf after `skip` others of the children of a split that fits.
+#[cycle(leaf)]
+fn leaf_among<T: Id, R: Id, V: Id, S: Scalar, P: SoftRows<T, R, V, S>>(soft: &P, children: &[DualTree<T, R, S>], cost: S, made: &mut [Option<Way>], t: T, skip: u32) -> Result<(), CertFault<R, V>>
+    requires decisions { AreDecisions (P.soft soft.now) made.old }
+    requires fits { IsTrue (is_fit (P.soft soft.now) made.old (T.number_of t) (length children.now)) }
+    requires countable { sum_by leaf_count children.now < 2 ^ 32 }
+    requires inside { skip < sum_by leaf_count children.now }
+    ensures made { made.new ≡ made.old }
+    ensures judged {
+        Judges result (fault_of R.number_of V.number_of)
+            (numbered_duties S.limit (P.soft soft.now)
+                (child_leaves None made.old (T.number_of t) 0
+                    (map (leaves_of T.number_of R.number_of S.value (P.soft soft.now) (S.value cost)) children.now)) (skip + 1))
+    }
+{
+    let mut skip = skip;
+    let mut way = 0;
+    for child in children {
+        let count = child.leaves().unwrap();
+        if skip < count {
+            return leaf_of_child(soft, child, cost, made, t, Way(way), skip);
+        }
+        skip -= count;
+        way += 1;
+    }
+    unreachable!()
+}
+
+// The leaf after `skip` others of one child, with the term decided in its way; the decision is taken back afterwards.
+#[cycle(leaf)]
+fn leaf_of_child<T: Id, R: Id, V: Id, S: Scalar, P: SoftRows<T, R, V, S>>(soft: &P, child: &DualTree<T, R, S>, cost: S, made: &mut [Option<Way>], t: T, way: Way, skip: u32) -> Result<(), CertFault<R, V>>
+    requires decisions { AreDecisions (P.soft soft.now) made.old }
+    requires term { T.number_of t < length made.old }
+    requires undecided { decision_of made.old (T.number_of t) ≡ None }
+    requires way { way < ways_of (P.soft soft.now) (T.number_of t) }
+    requires countable { leaf_count child.now < 2 ^ 32 }
+    requires inside { skip < leaf_count child.now }
+    ensures made { made.new ≡ made.old }
+    ensures judged {
+        Judges result (fault_of R.number_of V.number_of)
+            (numbered_duties S.limit (P.soft soft.now)
+                (leaves_of T.number_of R.number_of S.value (P.soft soft.now) (S.value cost) child.now
+                    (top (decide made.old (T.number_of t) way))) (skip + 1))
+    }
+{
+    let number = t.number() as usize;
+    made[number] = Some(way);
+    let answer = leaf_in(soft, child, cost, made, skip);
     made[number] = None;
     answer
 }
