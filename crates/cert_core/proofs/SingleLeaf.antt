@@ -129,3 +129,61 @@ module _ {T R S : Type 0} (term : T → ℕ) (row : R → ℕ) (value : S → �
     omega (arith, a.way_is, g.2),
     omega (arith, a.countable, ap (sum_by leaf_count) (drop_item children i child h e), sum_by-cons leaf_count child (drop (i + 1) children)),
   )
+
+-- ---- the tree's check fails at the first leaf whose own check fails
+first-parts : {F : Type 0} (ds es : List (Duty F)) (f : F) → IsFirstUnmet (ds ++ es) f → IsFirstUnmet ds f ⊎ (AllMet ds × IsFirstUnmet es f)
+first-parts [] es f u = inr (tt, u)
+first-parts (d ∷ ds) es f u = ⊎_elim (λ a. inl (inl a)) (λ b. ⊎_elim (λ c. inl (inr (b.0, c))) (λ c. inr ((b.0, c.0), c.1)) (first-parts ds es f b.1)) u
+
+at_leaf-first : (n : ℕ) (ds : List (Duty (CertFault ℕ ℕ))) (f : TreeFault ℕ ℕ) → IsFirstUnmet (map (at_leaf n) ds) f → (f.leaf ≡ n) × IsFirstUnmet ds f.fault
+at_leaf-first n [] f u = absurd u
+at_leaf-first n (d ∷ ds) f u = ⊎_elim (λ a. (ap (λ (x : TreeFault ℕ ℕ). x.leaf) (sym a.1), inl (a.0, ap (λ (x : TreeFault ℕ ℕ). x.fault) a.1))) (λ b. let r = at_leaf-first n ds f b.1 in (r.0, inr (b.0, r.1))) u
+
+at_leaf-AllMet : (n : ℕ) (ds : List (Duty (CertFault ℕ ℕ))) → AllMet (map (at_leaf n) ds) → AllMet ds
+at_leaf-AllMet n [] h = tt
+at_leaf-AllMet n (d ∷ ds) h = (h.0, at_leaf-AllMet n ds h.1)
+
+-- leaf k of the list is the first that fails, and so the fault f is that of leaf n + k
+record FailsAt (limit : ℕ) (p : SoftProgram) (n : ℕ) (leaves : List Leaf) (f : TreeFault ℕ ℕ) (k : ℕ) : Type 0 where
+  inside : k < length leaves
+  number : f.leaf ≡ n + k
+  fails : IsFirstUnmet (leaf_duties limit p (get_or leaves k no_leaf)) f.fault
+  passes : (j : ℕ) → j < k → AllMet (leaf_duties limit p (get_or leaves j no_leaf))
+
+first-leaf : (limit : ℕ) (p : SoftProgram) (n : ℕ) (leaves : List Leaf) (f : TreeFault ℕ ℕ) → IsFirstUnmet (leaves_duties limit p n leaves) f → (k : ℕ) × FailsAt limit p n leaves f k
+first-leaf limit p n [] f u = absurd u
+first-leaf limit p n (leaf ∷ leaves) f u = ⊎_elim
+    (λ a. let r = at_leaf-first n (leaf_duties limit p leaf) f a in (0, record { inside = omega arith; number = omega (arith, r.0); fails = r.1; passes = λ j h. absurd (omega arith) }))
+    (λ b. let r = first-leaf limit p (n + 1) leaves f b.1 in (suc r.0, record {
+      inside = omega (arith, r.1.inside);
+      number = omega (arith, r.1.number);
+      fails = r.1.fails;
+      passes = λ j h. earlier leaf leaves r.0 (at_leaf-AllMet n (leaf_duties limit p leaf) b.0) r.1.passes j h;
+    }))
+    (first-parts (map (at_leaf n) (leaf_duties limit p leaf)) (leaves_duties limit p (n + 1) leaves) f u)
+  where
+    earlier : (leaf : Leaf) (leaves : List Leaf) (k : ℕ) → AllMet (leaf_duties limit p leaf) → ((j : ℕ) → j < k → AllMet (leaf_duties limit p (get_or leaves j no_leaf))) → (j : ℕ) → j < suc k → AllMet (leaf_duties limit p (get_or (leaf ∷ leaves) j no_leaf))
+    earlier leaf leaves k a g zero h = a
+    earlier leaf leaves k a g (suc j) h = g j (omega arith)
+
+leaf-first : (limit : ℕ) (p : SoftProgram) (n : ℕ) (leaves : List Leaf) (f : TreeFault ℕ ℕ) (k : ℕ) → FailsAt limit p n leaves f k → IsFirstUnmet (leaves_duties limit p n leaves) f
+leaf-first limit p n [] f k r = absurd (omega (arith, r.inside))
+leaf-first limit p n (leaf ∷ leaves) f zero r = IsFirstUnmet-left (map (at_leaf n) (leaf_duties limit p leaf)) (leaves_duties limit p (n + 1) leaves) f
+    (let same : n ≡ f.leaf = omega (arith, r.number) in subst (λ (m : ℕ). IsFirstUnmet (map (at_leaf n) (leaf_duties limit p leaf)) (record { leaf = m; fault = f.fault })) same (IsFirstUnmet-at_leaf n (leaf_duties limit p leaf) f.fault r.fails))
+leaf-first limit p n (leaf ∷ leaves) f (suc k) r = IsFirstUnmet-right (map (at_leaf n) (leaf_duties limit p leaf)) (leaves_duties limit p (n + 1) leaves) f
+    (AllMet-at_leaf n (leaf_duties limit p leaf) (r.passes 0 (omega arith)))
+    (leaf-first limit p (n + 1) leaves f k (record { inside = omega (arith, r.inside); number = omega (arith, r.number); fails = r.fails; passes = λ j h. r.passes (suc j) (omega arith) }))
+
+-- both ways, with the leaves counted from 1
+pub fails-at_first_leaf : (limit : ℕ) (p : SoftProgram) → FailsAtFirstLeaf limit p
+fails-at_first_leaf limit p leaves f = (
+  λ u. let r = first-leaf limit p 1 leaves f u in
+    let place : f.leaf - 1 ≡ r.0 = omega (arith, r.1.number) in
+    (omega (arith, r.1.number), omega (arith, r.1.number, r.1.inside),
+    subst (λ (k : ℕ). IsFirstUnmet (leaf_duties limit p (get_or leaves k no_leaf)) f.fault) (sym place) r.1.fails,
+    λ n h k. r.1.passes (n - 1) (omega (arith, r.1.number))),
+  λ a. leaf-first limit p 1 leaves f (f.leaf - 1) (record { inside = omega (arith, a.0, a.1); number = omega (arith, a.0); fails = a.2; passes = λ j h. passed j (a.3 (j + 1) (omega arith) (omega (arith, a.0))) }),
+)
+  where
+    passed : (j : ℕ) → AllMet (numbered_duties limit p leaves (j + 1)) → AllMet (leaf_duties limit p (get_or leaves j no_leaf))
+    passed j h = let same : j + 1 - 1 ≡ j = omega arith in subst (λ (k : ℕ). AllMet (leaf_duties limit p (get_or leaves k no_leaf))) same h

@@ -17,4 +17,4 @@ pub use pairs::{DualRow, FarkasRow};
 pub use program::{CertFault, Rows};
 pub use soft::{SoftRows, Way};
 pub use tree::{DualTree, TreeFault};
-pub use tree_check::check_tree;
+pub use tree_check::{check_leaf, check_tree, tree_fails_at_first_leaf};

@@ -5,7 +5,7 @@ ghost use Rattle.cert_core.specs.Checks.{claim_of};
 ghost use Rattle.cert_core.specs.Duties.{Judges, IsFirstUnmet};
 ghost use Rattle.cert_core.specs.Faults.{fault_of, multipliers_of, tree_fault_of};
 ghost use Rattle.cert_core.specs.Soft.{AlwaysCosts, AreDecisions, AreUndecided, decide, decision_of, ways_of};
-ghost use Rattle.cert_core.specs.Trees.{AreLeavesReckoned, ProvesTree, Shows, leaf_duties, leaves_duties, numbered_duties, JudgesLeaves, leaves_of, leaf_count, is_fit, child_leaves, top};
+ghost use Rattle.cert_core.specs.Trees.{AreLeavesReckoned, FailsAtFirstLeaf, ProvesTree, Shows, leaf_duties, leaves_duties, numbered_duties, JudgesLeaves, leaves_of, leaf_count, is_fit, child_leaves, top};
 
 use crate::check::check;
 use crate::claim::Claim;
@@ -286,3 +286,8 @@ fn leaf_of_child<T: Id, R: Id, V: Id, S: Scalar, P: SoftRows<T, R, V, S>>(soft: 
     made[number] = None;
     answer
 }
+
+/// The check of a tree fails exactly at the least leaf whose own check fails, with that leaf's fault.
+pub fn tree_fails_at_first_leaf<T: Id, R: Id, V: Id, S: Scalar, P: SoftRows<T, R, V, S>>(_soft: &P)
+    ensures { FailsAtFirstLeaf S.limit (P.soft _soft.now) }
+{}
