@@ -1,5 +1,5 @@
 -- One leaf of a tree, found by its number.
-use Rattle.std.proofs.Common.{◌≡◌, ◌≢◌, ◌↔◌, ℕ, zero, suc, ◌+◌, ◌-◌, ◌<◌, ◌≤◌, refl, sym, ◌∙◌, ap, subst, Bool, true, false, Option, Some, None, List, [], ◌∷◌, ◌++◌, length, map, drop, get_or, arith, inl, inr, ◌⊎◌, ⊎_elim, Result}
+use Rattle.std.proofs.Common.{◌≡◌, ℕ, zero, suc, ◌+◌, ◌-◌, ◌<◌, ◌≤◌, refl, sym, ◌∙◌, ap, subst, true, false, None, List, [], ◌∷◌, ◌++◌, length, map, drop, get_or, arith, inl, inr, ◌⊎◌, ⊎_elim, Result}
 use Rattle.std.specs.List.{AllByRecursion, sum_by}
 use Rattle.std.proofs.lemmas.List.{get_or_append_left, get_or-append_right}
 use Rattle.std.proofs.lemmas.List.Sums.{sum_by-cons}
@@ -12,11 +12,11 @@ use Rattle.cert_core.specs.declared.tree.DualTree.{DualTree}
 use Rattle.cert_core.specs.declared.tree.DualTree.TheVariants as tree
 use Rattle.cert_core.specs.Soft.{Decisions, SoftProgram, ways_of, decision_of, decide, IsLawful}
 use Rattle.cert_core.specs.Duties.{Duty, AllMet, IsFirstUnmet, Judges}
-use Rattle.cert_core.specs.Faults.{fault_of, multipliers_of}
-use Rattle.cert_core.specs.Trees.{Above, AtLeaf, Leaf, Misfit, Shows, is_fit, child_leaves, leaves_of, leaf_duties, leaves_duties, numbered_duties, at_leaf, top, leaf_count, leaf_at, FailsAtFirstLeaf}
-use Rattle.cert_core.proofs.Judging.{IsFirstUnmet-left, IsFirstUnmet-right, AllMet-append}
-use Rattle.cert_core.proofs.Leaves.{leaves_of-split, leaves_of-none, leaves_of-at_least, each_tree}
-use Rattle.cert_core.proofs.TreeParts.{drop_item, drop_all, fits-somehow, split-leaves, split-all_misfit, length-leaves_of, IsFirstUnmet-at_leaf, AllMet-at_leaf}
+use Rattle.cert_core.specs.Faults.{multipliers_of}
+use Rattle.cert_core.specs.Trees.{Above, AtLeaf, Leaf, Misfit, Shows, is_fit, child_leaves, leaves_of, leaf_duties, leaves_duties, numbered_duties, at_leaf, top, leaf_count, FailsAtFirstLeaf}
+use Rattle.cert_core.proofs.Judging.{IsFirstUnmet-left, IsFirstUnmet-right}
+use Rattle.cert_core.proofs.Leaves.{leaves_of-none, leaves_of-at_least}
+use Rattle.cert_core.proofs.TreeParts.{drop_item, fits-somehow, split-leaves, split-all_misfit, length-leaves_of, IsFirstUnmet-at_leaf, AllMet-at_leaf}
 
 abbrev no_leaf : Leaf
 no_leaf = record { made = []; here = Misfit 0 }
@@ -116,7 +116,7 @@ module _ {T R S : Type 0} (term : T → ℕ) (row : R → ℕ) (value : S → �
       let placed = subst (λ (m : Decisions). Judges result named (leaf_duties limit p (get_or (leaves child (decide m t way)) skip no_leaf))) a.kept (subst (λ (m : ℕ). Judges result named (leaf_duties limit p (get_or (leaves child (decide now t way)) m no_leaf))) there j) in
       let wayed = subst (λ (w : ℕ). Judges result named (leaf_duties limit p (get_or (leaves child (decide made t w)) skip no_leaf))) a.way_is placed in
       let found = a.same ∙ ap (λ (cs : List (DualTree T R S)). get_or (child_leaves None made t i (map (leaves_of term row value p q) cs)) skip no_leaf) one
-            ∙ get_or_append_left (leaves child (decide made t i)) (child_leaves None made t (i + 1) (map (leaves_of term row value p q) (drop (i + 1) children))) no_leaf skip short in
+      ∙ get_or_append_left (leaves child (decide made t i)) (child_leaves None made t (i + 1) (map (leaves_of term row value p q) (drop (i + 1) children))) no_leaf skip short in
       subst (λ (m : ℕ). Judges result named (leaf_duties limit p (get_or (child_leaves None made t 0 (map (leaves_of term row value p q) children)) m no_leaf))) (sym here)
       (subst (λ (leaf : Leaf). Judges result named (leaf_duties limit p leaf)) (sym found) wayed)
 
@@ -154,12 +154,15 @@ first-leaf : (limit : ℕ) (p : SoftProgram) (n : ℕ) (leaves : List Leaf) (f :
 first-leaf limit p n [] f u = absurd u
 first-leaf limit p n (leaf ∷ leaves) f u = ⊎_elim
     (λ a. let r = at_leaf-first n (leaf_duties limit p leaf) f a in (0, record { inside = omega arith; number = omega (arith, r.0); fails = r.1; passes = λ j h. absurd (omega arith) }))
-    (λ b. let r = first-leaf limit p (n + 1) leaves f b.1 in (suc r.0, record {
-      inside = omega (arith, r.1.inside);
-      number = omega (arith, r.1.number);
-      fails = r.1.fails;
-      passes = λ j h. earlier leaf leaves r.0 (at_leaf-AllMet n (leaf_duties limit p leaf) b.0) r.1.passes j h;
-    }))
+    (λ b. let r = first-leaf limit p (n + 1) leaves f b.1 in (
+      suc r.0,
+      record {
+        inside = omega (arith, r.1.inside);
+        number = omega (arith, r.1.number);
+        fails = r.1.fails;
+        passes = λ j h. earlier leaf leaves r.0 (at_leaf-AllMet n (leaf_duties limit p leaf) b.0) r.1.passes j h;
+      },
+    ))
     (first-parts (map (at_leaf n) (leaf_duties limit p leaf)) (leaves_duties limit p (n + 1) leaves) f u)
   where
     earlier : (leaf : Leaf) (leaves : List Leaf) (k : ℕ) → AllMet (leaf_duties limit p leaf) → ((j : ℕ) → j < k → AllMet (leaf_duties limit p (get_or leaves j no_leaf))) → (j : ℕ) → j < suc k → AllMet (leaf_duties limit p (get_or (leaf ∷ leaves) j no_leaf))
@@ -178,10 +181,12 @@ leaf-first limit p n (leaf ∷ leaves) f (suc k) r = IsFirstUnmet-right (map (at
 pub fails-at_first_leaf : (limit : ℕ) (p : SoftProgram) → FailsAtFirstLeaf limit p
 fails-at_first_leaf limit p leaves f = (
   λ u. let r = first-leaf limit p 1 leaves f u in
-    let place : f.leaf - 1 ≡ r.0 = omega (arith, r.1.number) in
-    (omega (arith, r.1.number), omega (arith, r.1.number, r.1.inside),
-    subst (λ (k : ℕ). IsFirstUnmet (leaf_duties limit p (get_or leaves k no_leaf)) f.fault) (sym place) r.1.fails,
-    λ n h k. r.1.passes (n - 1) (omega (arith, r.1.number))),
+      let place : f.leaf - 1 ≡ r.0 = omega (arith, r.1.number) in (
+        omega (arith, r.1.number),
+        omega (arith, r.1.number, r.1.inside),
+        subst (λ (k : ℕ). IsFirstUnmet (leaf_duties limit p (get_or leaves k no_leaf)) f.fault) (sym place) r.1.fails,
+        λ n h k. r.1.passes (n - 1) (omega (arith, r.1.number)),
+      ),
   λ a. leaf-first limit p 1 leaves f (f.leaf - 1) (record { inside = omega (arith, a.0, a.1); number = omega (arith, a.0); fails = a.2; passes = λ j h. passed j (a.3 (j + 1) (omega arith) (omega (arith, a.0))) }),
 )
   where

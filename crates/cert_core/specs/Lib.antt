@@ -5,3 +5,4 @@ pub mod Checks
 pub mod Faults
 pub mod Soft
 pub mod Trees
+pub mod Listed

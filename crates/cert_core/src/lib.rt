@@ -18,3 +18,6 @@ pub use program::{CertFault, Rows};
 pub use soft::{SoftRows, Way};
 pub use tree::{DualTree, TreeFault};
 pub use tree_check::{check_leaf, check_tree, tree_fails_at_first_leaf};
+
+#[cfg(test)]
+mod tests;

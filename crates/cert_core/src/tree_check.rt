@@ -194,16 +194,20 @@ fn check_child<T: Id, R: Id, V: Id, S: Scalar, P: SoftRows<T, R, V, S>>(
 
 /// Checks the leaf with this number, counted from 1: below a split that can't be made, the fault `Range` of the term
 /// of the first such split from the root; else the base and the multipliers of the leaf under the decisions above it.
-pub fn check_leaf<T: Id, R: Id, V: Id, S: Scalar, P: SoftRows<T, R, V, S>>(soft: &P, tree: &DualTree<T, R, S>, cost: S, made: &mut [Option<Way>], leaf: u32) -> Result<(), CertFault<R, V>>
+pub fn check_leaf<T: Id, R: Id, V: Id, S: Scalar, P: SoftRows<T, R, V, S>>(
+    soft: &P,
+    tree: &DualTree<T, R, S>,
+    cost: S,
+    made: &mut [Option<Way>],
+    leaf: u32,
+) -> Result<(), CertFault<R, V>>
     requires undecided { AreUndecided (P.soft soft.now) made.old }
     requires countable { leaf_count tree.now < 2 ^ 32 }
     requires from_one { 1 ≤ leaf }
     requires in_range { leaf ≤ leaf_count tree.now }
-    ensures judged {
-        Judges result (fault_of R.number_of V.number_of)
-            (numbered_duties S.limit (P.soft soft.now)
-                (leaves_of T.number_of R.number_of S.value (P.soft soft.now) (S.value cost) tree.now (top made.old)) leaf)
-    }
+    ensures judged { Judges result (fault_of R.number_of V.number_of)
+        (numbered_duties S.limit (P.soft soft.now)
+        (leaves_of T.number_of R.number_of S.value (P.soft soft.now) (S.value cost) tree.now (top made.old)) leaf) }
     ensures made { made.new ≡ made.old }
 {
     leaf_in(soft, tree, cost, made, leaf - 1)
@@ -211,16 +215,20 @@ pub fn check_leaf<T: Id, R: Id, V: Id, S: Scalar, P: SoftRows<T, R, V, S>>(soft:
 
 // The leaf after `skip` others of a part of a tree.
 #[cycle(leaf)]
-fn leaf_in<T: Id, R: Id, V: Id, S: Scalar, P: SoftRows<T, R, V, S>>(soft: &P, tree: &DualTree<T, R, S>, cost: S, made: &mut [Option<Way>], skip: u32) -> Result<(), CertFault<R, V>>
+fn leaf_in<T: Id, R: Id, V: Id, S: Scalar, P: SoftRows<T, R, V, S>>(
+    soft: &P,
+    tree: &DualTree<T, R, S>,
+    cost: S,
+    made: &mut [Option<Way>],
+    skip: u32,
+) -> Result<(), CertFault<R, V>>
     requires decisions { AreDecisions (P.soft soft.now) made.old }
     requires countable { leaf_count tree.now < 2 ^ 32 }
     requires inside { skip < leaf_count tree.now }
     ensures made { made.new ≡ made.old }
-    ensures judged {
-        Judges result (fault_of R.number_of V.number_of)
-            (numbered_duties S.limit (P.soft soft.now)
-                (leaves_of T.number_of R.number_of S.value (P.soft soft.now) (S.value cost) tree.now (top made.old)) (skip + 1))
-    }
+    ensures judged { Judges result (fault_of R.number_of V.number_of)
+        (numbered_duties S.limit (P.soft soft.now)
+        (leaves_of T.number_of R.number_of S.value (P.soft soft.now) (S.value cost) tree.now (top made.old)) (skip + 1)) }
 {
     match tree {
         DualTree::None(row) => check_here(soft, made, row.pairs(), Claim::Empty),
@@ -237,18 +245,23 @@ fn leaf_in<T: Id, R: Id, V: Id, S: Scalar, P: SoftRows<T, R, V, S>>(soft: &P, tr
 
 // The leaf after `skip` others of the children of a split that fits.
 #[cycle(leaf)]
-fn leaf_among<T: Id, R: Id, V: Id, S: Scalar, P: SoftRows<T, R, V, S>>(soft: &P, children: &[DualTree<T, R, S>], cost: S, made: &mut [Option<Way>], t: T, skip: u32) -> Result<(), CertFault<R, V>>
+fn leaf_among<T: Id, R: Id, V: Id, S: Scalar, P: SoftRows<T, R, V, S>>(
+    soft: &P,
+    children: &[DualTree<T, R, S>],
+    cost: S,
+    made: &mut [Option<Way>],
+    t: T,
+    skip: u32,
+) -> Result<(), CertFault<R, V>>
     requires decisions { AreDecisions (P.soft soft.now) made.old }
     requires fits { IsTrue (is_fit (P.soft soft.now) made.old (T.number_of t) (length children.now)) }
     requires countable { sum_by leaf_count children.now < 2 ^ 32 }
     requires inside { skip < sum_by leaf_count children.now }
     ensures made { made.new ≡ made.old }
-    ensures judged {
-        Judges result (fault_of R.number_of V.number_of)
-            (numbered_duties S.limit (P.soft soft.now)
-                (child_leaves None made.old (T.number_of t) 0
-                    (map (leaves_of T.number_of R.number_of S.value (P.soft soft.now) (S.value cost)) children.now)) (skip + 1))
-    }
+    ensures judged { Judges result (fault_of R.number_of V.number_of)
+        (numbered_duties S.limit (P.soft soft.now)
+        (child_leaves None made.old (T.number_of t) 0
+        (map (leaves_of T.number_of R.number_of S.value (P.soft soft.now) (S.value cost)) children.now)) (skip + 1)) }
 {
     let mut skip = skip;
     let mut way = 0;
@@ -265,7 +278,15 @@ fn leaf_among<T: Id, R: Id, V: Id, S: Scalar, P: SoftRows<T, R, V, S>>(soft: &P,
 
 // The leaf after `skip` others of one child, with the term decided in its way; the decision is taken back afterwards.
 #[cycle(leaf)]
-fn leaf_of_child<T: Id, R: Id, V: Id, S: Scalar, P: SoftRows<T, R, V, S>>(soft: &P, child: &DualTree<T, R, S>, cost: S, made: &mut [Option<Way>], t: T, way: Way, skip: u32) -> Result<(), CertFault<R, V>>
+fn leaf_of_child<T: Id, R: Id, V: Id, S: Scalar, P: SoftRows<T, R, V, S>>(
+    soft: &P,
+    child: &DualTree<T, R, S>,
+    cost: S,
+    made: &mut [Option<Way>],
+    t: T,
+    way: Way,
+    skip: u32,
+) -> Result<(), CertFault<R, V>>
     requires decisions { AreDecisions (P.soft soft.now) made.old }
     requires term { T.number_of t < length made.old }
     requires undecided { decision_of made.old (T.number_of t) ≡ None }
@@ -273,12 +294,10 @@ fn leaf_of_child<T: Id, R: Id, V: Id, S: Scalar, P: SoftRows<T, R, V, S>>(soft: 
     requires countable { leaf_count child.now < 2 ^ 32 }
     requires inside { skip < leaf_count child.now }
     ensures made { made.new ≡ made.old }
-    ensures judged {
-        Judges result (fault_of R.number_of V.number_of)
-            (numbered_duties S.limit (P.soft soft.now)
-                (leaves_of T.number_of R.number_of S.value (P.soft soft.now) (S.value cost) child.now
-                    (top (decide made.old (T.number_of t) way))) (skip + 1))
-    }
+    ensures judged { Judges result (fault_of R.number_of V.number_of)
+        (numbered_duties S.limit (P.soft soft.now)
+        (leaves_of T.number_of R.number_of S.value (P.soft soft.now) (S.value cost) child.now
+        (top (decide made.old (T.number_of t) way))) (skip + 1)) }
 {
     let number = t.number() as usize;
     made[number] = Some(way);

@@ -1,8 +1,8 @@
-use Rattle.std.proofs.Common.{arith, ap, sym, ◌∙◌, subst, ◌<◌, ◌≡◌, ℕ, [], drop, Bool, true, false}
+use Rattle.std.proofs.Common.{arith, ap, sym, ◌∙◌, subst, ◌<◌, ◌≡◌, ℕ, Bool, true, false}
 use Rattle.std.specs.List.{sum_by}
 use Rattle.std.specs.Option.{SomeIff}
 use Rattle.cert_core.specs.Trees.{leaf_count}
-use Rattle.cert_core.proofs.Counting.{leaf_count-sum, leaf_count-none, leaf_count-at_least, leaf_count-no_child, leaf_count-some}
+use Rattle.cert_core.proofs.Counting.{leaf_count-sum, leaf_count-none, leaf_count-at_least, leaf_count-some}
 use Rattle.cert_core.proofs.TreeParts.{drop_all}
 use Rattle.cert_core.proofs.tree.+count.Goals as goal
 
