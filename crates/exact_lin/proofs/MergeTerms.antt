@@ -9,11 +9,11 @@ use Rattle.exact_lin.specs.Forms.{Terms, AscendFrom, coefficient, is_zero, with_
 use Rattle.exact_lin.proofs.Merge.{absorb, merged, CanAbsorb, CanMerge, Merging, absorb-less}
 use Rattle.exact_lin.proofs.Results.{fits-product, CanAdd-zero}
 
-lt-less : (m n : ℕ) → m < n → nat_cmp m n ≡ Less
+pub lt-less : (m n : ℕ) → m < n → nat_cmp m n ≡ Less
 lt-less m n h = sym (nat_cmp_is m n Less h)
 
 -- what an answer of the comparison says
-ranks_at : (m n : ℕ) (o : Ordering) → nat_cmp m n ≡ o → MatchOrdering o (m < n) (m ≡ n) (n < m)
+pub ranks_at : (m n : ℕ) (o : Ordering) → nat_cmp m n ≡ o → MatchOrdering o (m < n) (m ≡ n) (n < m)
 ranks_at m n o e = subst (λ (p : Ordering). MatchOrdering p (m < n) (m ≡ n) (n < m)) e (ranks m n)
 
 -- ---- the terms

@@ -34,3 +34,14 @@ lt-other q h e = lt_irreflℚ zeroℚ (subst (λ (r : ℚ). r <ℚ zeroℚ) e h)
 
 pub gt-other : (q : ℚ) → zeroℚ <ℚ q → q ≢ zeroℚ
 gt-other q h e = lt_irreflℚ zeroℚ (subst (λ (r : ℚ). zeroℚ <ℚ r) e h)
+
+pub zero-is_zero : (q : ℚ) → is_zero q ≡ true → q ≡ zeroℚ
+zero-is_zero q e = zero_num q (go q.num e)
+  where
+    not_zero : (m : ℕ) → nat_eq (suc m) 0 ≡ true → ⊥
+    not_zero m e = grind (arith, nat_tests)
+
+    go : (z : ℤ) → nat_eq (nat_abs z) 0 ≡ true → z ≡ pos 0
+    go (pos zero) e = refl
+    go (pos (suc m)) e = absurd (not_zero m e)
+    go (negsuc m) e = absurd (not_zero m e)

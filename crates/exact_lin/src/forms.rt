@@ -1,10 +1,10 @@
 //! Linear forms over ids: a constant and terms in the order of their ids.
 
-ghost use Rattle.std.specs.Prelude.{◌≡◌, ℕ, ◌+◌, ◌<◌, ◌≤◌, List, [], ◌∷◌, ◌++◌, length, map, OnOk, IfOk, OnErr, IsErrOf, MatchOption};
+ghost use Rattle.std.specs.Prelude.{◌≡◌, ℕ, ◌+◌, ◌<◌, ◌≤◌, List, [], ◌∷◌, ◌++◌, length, map, take, drop, OnOk, IfOk, OnErr, IsErrOf, MatchOption, Err};
 ghost use Rattle.std.specs.Result.{MatchResult};
 ghost use Rattle.rational.specs.Rational.{ℚ, zeroℚ, ◌+ℚ◌, ◌*ℚ◌};
 ghost use Rattle.exact_lin.specs.Reckoning.{CanAdd, Fits, Reckons};
-ghost use Rattle.exact_lin.specs.Forms.{shown, LinearForm, IsForm, AscendFrom, Covers, terms_at, form_at, values_of, coefficient, is_zero, with_term, increased, increased_by, constant_form, plus_constant, plus_term, plus_scaled, CanAddTerm, CanAddTerms, CanAddScaled, CanSumTerms, CanEvaluate};
+ghost use Rattle.exact_lin.specs.Forms.{shown, LinearForm, IsForm, AscendFrom, Covers, terms_at, form_at, place_in, IsGap, IsTerm, values_of, coefficient, is_zero, with_term, increased, increased_by, constant_form, plus_constant, plus_term, plus_scaled, CanAddTerm, CanAddTerms, CanAddScaled, CanSumTerms, CanEvaluate};
 
 use crate::ids::Id;
 use crate::scalars::{Scalar, Sign, Wide};
@@ -126,6 +126,37 @@ impl<V: Id, S: Scalar> Form<V, S> {
         Ok(())
     }
 
+    /// Adds a number to the coefficient of an id. The form is unchanged where that fails.
+    pub fn add_term(&mut self, v: V, c: S) -> Result<(), FormFault>
+        ensures defined { OnOk result (CanAddTerm S.limit self.old (V.number_of v) (S.value c)) }
+        ensures form { OnOk result (self.new ≡ plus_term self.old (V.number_of v) (S.value c)) }
+        ensures value { OnOk result ((x : ℕ → ℚ) → form_at self.new x ≡ form_at self.old x +ℚ S.value c *ℚ x (V.number_of v)) }
+        ensures wide { IsErrOf result FormFault.Wide → ¬ (CanAddTerm S.limit self.old (V.number_of v) (S.value c)) }
+        ensures err { OnErr result (self.new ≡ self.old) }
+    {
+        add_to_terms(&mut self.terms, v, c)?;
+        Ok(())
+    }
+
+    /// Adds `by` times another form, in one pass over the terms of both. The form is unchanged where that fails.
+    pub fn add_scaled(&mut self, other: &Form<V, S>, by: S) -> Result<(), FormFault>
+        ensures defined { OnOk result (CanAddScaled S.limit self.old (S.value by) other.now) }
+        ensures form { OnOk result (self.new ≡ plus_scaled self.old (S.value by) other.now) }
+        ensures value { OnOk result ((x : ℕ → ℚ) → form_at self.new x ≡ form_at self.old x +ℚ S.value by *ℚ form_at other.now x) }
+        ensures wide { IsErrOf result FormFault.Wide → ¬ (CanAddScaled S.limit self.old (S.value by) other.now) }
+        ensures err { OnErr result (self.new ≡ self.old) }
+    {
+        let terms = merge(
+            *self.terms.allocator(),
+            self.terms.as_slice(),
+            by,
+            other.terms.as_slice(),
+        )?;
+        self.constant = self.constant.add(by.mul(other.constant)?)?;
+        self.terms = terms;
+        Ok(())
+    }
+
     /// The value of the form where the id of number n has the value `point[n]`, reckoned from the constant on, term by
     /// term.
     pub fn value_at(&self, point: &[S]) -> Result<S, Wide>
@@ -211,6 +242,97 @@ fn merge<V: Id, S: Scalar>(
     }
     match sum.extend_from_slice(left) {
         Ok(()) => Ok(sum),
+        Err(_) => Err(FormFault::Memory),
+    }
+}
+
+// How many terms, from the first on, have ids below this number.
+fn place_of<V: Id, S: Scalar>(terms: &[(V, S)], number: u32) -> usize
+    requires { AscendFrom 0 (shown V.number_of S.value terms.now) }
+    ensures { result ≡ place_in (shown V.number_of S.value terms.now) number }
+{
+    // Terms mostly come in the order of their ids.
+    if let Some((last, _)) = terms.split_last() {
+        if last.0.number() < number {
+            return terms.len();
+        }
+    }
+    let mut left = terms;
+    while let Some((first, rest)) = left.split_first() {
+        if first.0.number() >= number {
+            break;
+        }
+        left = rest;
+    }
+    terms.len() - left.len()
+}
+
+// Adds to the term of an id, or makes or removes it.
+fn add_to_terms<V: Id, S: Scalar>(terms: &mut Vec<(V, S)>, v: V, c: S) -> Result<(), FormFault>
+    requires { AscendFrom 0 (shown V.number_of S.value terms.old.items) }
+    ensures defined { OnOk result (CanAdd S.limit (coefficient (shown V.number_of S.value terms.old.items) (V.number_of v)) (S.value c)) }
+    ensures terms { OnOk result (shown V.number_of S.value terms.new.items ≡ increased (shown V.number_of S.value terms.old.items) (V.number_of v) (S.value c)) }
+    ensures wide { IsErrOf result FormFault.Wide → ¬ (CanAdd S.limit (coefficient (shown V.number_of S.value terms.old.items) (V.number_of v)) (S.value c)) }
+    ensures err { OnErr result (terms.new.items ≡ terms.old.items) }
+{
+    let place = place_of(terms.as_slice(), v.number());
+    match coefficient_at(terms.as_slice(), v, place) {
+        Some(old) => {
+            let sum = old.add(c)?;
+            set_term(terms, place, v, sum);
+            Ok(())
+        }
+        None => insert_term(terms, place, v, c),
+    }
+}
+
+// The coefficient of an id, if it has a term at its place.
+fn coefficient_at<V: Id, S: Scalar>(terms: &[(V, S)], v: V, place: usize) -> Option<S>
+    requires terms { AscendFrom 0 (shown V.number_of S.value terms.now) }
+    requires place { place ≡ place_in (shown V.number_of S.value terms.now) (V.number_of v) }
+    ensures { MatchOption result (IsGap (shown V.number_of S.value terms.now) (V.number_of v) place) (λ old. IsTerm (shown V.number_of S.value terms.now) (V.number_of v) place (S.value old)) }
+{
+    if place >= terms.len() {
+        return None;
+    }
+    let term = terms[place];
+    if term.0.number() == v.number() {
+        Some(term.1)
+    } else {
+        None
+    }
+}
+
+// Gives the term at a place a new coefficient, or removes it where that is 0.
+fn set_term<V: Id, S: Scalar>(terms: &mut Vec<(V, S)>, place: usize, v: V, c: S)
+    requires { place < length terms.old.items }
+    ensures { shown V.number_of S.value terms.new.items ≡ take place (shown V.number_of S.value terms.old.items) ++ with_term (V.number_of v) (S.value c) (drop (place + 1) (shown V.number_of S.value terms.old.items)) }
+{
+    if is_zero_scalar(c) {
+        terms.remove(place);
+    } else {
+        terms[place] = (v, c);
+    }
+}
+
+// Puts a term at a place, unless its coefficient is 0.
+fn insert_term<V: Id, S: Scalar>(
+    terms: &mut Vec<(V, S)>,
+    place: usize,
+    v: V,
+    c: S,
+) -> Result<(), FormFault>
+    requires { place ≤ length terms.old.items }
+    ensures terms { OnOk result (shown V.number_of S.value terms.new.items ≡ take place (shown V.number_of S.value terms.old.items) ++ with_term (V.number_of v) (S.value c) (drop place (shown V.number_of S.value terms.old.items))) }
+    ensures fits { Fits S.limit (S.value c) }
+    ensures memory { OnErr result (IsErrOf result FormFault.Memory) }
+    ensures err { OnErr result (terms.new.items ≡ terms.old.items) }
+{
+    if is_zero_scalar(c) {
+        return Ok(());
+    }
+    match terms.insert(place, (v, c)) {
+        Ok(()) => Ok(()),
         Err(_) => Err(FormFault::Memory),
     }
 }
