@@ -1,5 +1,5 @@
 -- Edits of lists of ids and scalars, by the terms that these show.
-use Rattle.std.proofs.Common.{◌≡◌, ◌≢◌, ℕ, suc, ◌+◌, ◌<◌, ◌≤◌, sym, ◌∙◌, ap, ap₂, subst, refl, arith, List, [], ◌∷◌, ◌++◌, length, take, drop, get_or, map, add-one, true, false, Bool, if◌then◌else◌}
+use Rattle.std.proofs.Common.{◌≡◌, ◌≢◌, ℕ, suc, ◌+◌, ◌<◌, ◌≤◌, sym, ◌∙◌, ap, ap₂, subst, arith, List, ◌∷◌, ◌++◌, length, take, drop, get_or, add-one, true, false, Bool, if◌then◌else◌}
 use Rattle.std.specs.Prelude.{Result, Ok, Err, OnOk}
 use Rattle.std.specs.List.{insert, remove, slice_set}
 use Rattle.std.proofs.lemmas.List.{map-append, length-map, take-map, drop-map, set_split, get_or-map}

@@ -1,12 +1,10 @@
 -- What adding terms does to the ids, the coefficients and the linear function of a form.
-use Rattle.std.proofs.Common.{◌≡◌, ◌≢◌, ℕ, ◌+◌, ◌<◌, ◌≤◌, sym, ◌∙◌, ap, ap₂, subst, refl, arith, List, [], ◌∷◌, ◌++◌, Less, Equal, Greater, Ordering, Bool, true, false, if◌then◌else◌, nat_eq}
+use Rattle.std.proofs.Common.{◌≡◌, ◌≢◌, ℕ, ◌+◌, ◌<◌, ◌≤◌, sym, ◌∙◌, ap, ap₂, subst, refl, arith, [], ◌∷◌, Less, Equal, Greater, Ordering, Bool, true, false, if◌then◌else◌}
 use Rattle.std.specs.Ordering.{nat_cmp, match_ordering}
-use Rattle.std.proofs.Math.IntN.{nat_abs}
-use Rattle.std.proofs.lemmas.Bool.Decides.{nat_tests}
 use Rattle.rational.specs.Rational.{ℚ, zeroℚ, ◌+ℚ◌, ◌*ℚ◌}
 use Rattle.rational.proofs.Field.{zero_addℚ, zero_mulℚ, add_commℚ}
 use Rattle.rational.proofs.Solve.{ring2, ring3, ring4, ring5, num, ◌⊕◌, ◌⊗◌}
-use Rattle.exact_lin.specs.Forms.{Terms, LinearForm, AscendFrom, coefficient, terms_at, form_at, is_zero, with_term, increased, increased_by, plus_constant, plus_term, plus_scaled}
+use Rattle.exact_lin.specs.Forms.{Terms, LinearForm, AscendFrom, Covers, terms_at, form_at, is_zero, with_term, increased, increased_by, plus_constant, plus_term, plus_scaled}
 use Rattle.exact_lin.proofs.Zeros.{is_zero-zero, zero-is_zero}
 use Rattle.exact_lin.proofs.MergeTerms.{ranks_at}
 
@@ -83,6 +81,31 @@ form_at-plus_scaled f y g x = ap (λ (q : ℚ). (f.constant +ℚ y *ℚ g.consta
 
 pub form_at-plus_constant : (f : LinearForm) (c : ℚ) (x : ℕ → ℚ) → form_at (plus_constant f c) x ≡ form_at f x +ℚ c
 form_at-plus_constant f c x = ring3 f.constant c (terms_at f.terms x) (λ a b d. (a ⊕ b) ⊕ d) (λ a b d. (a ⊕ d) ⊕ b) refl
+
+-- ---- values for all ids
+
+Covers-with_term : (size v : ℕ) (c : ℚ) (ts : Terms) → v < size → Covers size ts → Covers size (with_term v c ts)
+Covers-with_term size v c ts h a = go (is_zero c)
+  where
+    go : (b : Bool) → Covers size (if b then ts else ((v, c) ∷ ts))
+    go true = a
+    go false = (h, a)
+
+pub Covers-increased : (size v : ℕ) (c : ℚ) (ts : Terms) → v < size → Covers size ts → Covers size (increased ts v c)
+Covers-increased size v c [] h a = Covers-with_term size v c [] h tt
+Covers-increased size v c (t ∷ ts) h a = go (nat_cmp t.0 v) (Covers-increased size v c ts h a.1)
+  where
+    go : (o : Ordering) → Covers size (increased ts v c) → Covers size (match_ordering o (t ∷ increased ts v c) (with_term v (t.1 +ℚ c) ts) (with_term v c (t ∷ ts)))
+    go Less ih = (a.0, ih)
+    go Equal ih = Covers-with_term size v (t.1 +ℚ c) ts h a.1
+    go Greater ih = Covers-with_term size v c (t ∷ ts) h a
+
+pub Covers-increased_by : (size : ℕ) (y : ℚ) (us ts : Terms) → Covers size us → Covers size ts → Covers size (increased_by ts y us)
+Covers-increased_by size y [] ts b a = a
+Covers-increased_by size y (u ∷ us) ts b a = Covers-increased_by size y us (increased ts u.0 (y *ℚ u.1)) b.1 (Covers-increased size u.0 (y *ℚ u.1) ts b.0 a)
+
+pub Covers-plus_term : (size : ℕ) (f g : LinearForm) (v : ℕ) (c : ℚ) → g ≡ plus_term f v c → v < size → Covers size f.terms → Covers size g.terms
+Covers-plus_term size f g v c e h a = subst (λ (k : LinearForm). Covers size k.terms) (sym e) (Covers-increased size v c f.terms h a)
 
 -- ---- forms by their parts
 

@@ -1,6 +1,6 @@
 -- Adding to the term of an id, at its place.
-use Rattle.std.proofs.Common.{◌≡◌, ◌≢◌, ℕ, zero, suc, ◌+◌, ◌<◌, ◌≤◌, sym, ◌∙◌, ap, subst, refl, arith, List, [], ◌∷◌, ◌++◌, length, take, drop, get_or, Less, Equal, Greater, Ordering}
-use Rattle.std.specs.Ordering.{nat_cmp, match_ordering, MatchOrdering}
+use Rattle.std.proofs.Common.{◌≡◌, ◌≢◌, ℕ, suc, ◌+◌, ◌<◌, ◌≤◌, sym, ◌∙◌, ap, subst, refl, arith, List, [], ◌∷◌, ◌++◌, length, take, drop, get_or, Less, Equal, Greater, Ordering}
+use Rattle.std.specs.Ordering.{nat_cmp, match_ordering}
 use Rattle.std.proofs.lemmas.List.{map-append, length-map}
 use Rattle.rational.specs.Rational.{ℚ, zeroℚ, ◌+ℚ◌}
 use Rattle.exact_lin.specs.Forms.{Terms, shown, AscendFrom, coefficient, with_term, increased, place_in}

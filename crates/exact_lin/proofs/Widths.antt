@@ -1,5 +1,5 @@
 -- A fraction of 128 bits whose parts fit 64.
-use Rattle.std.proofs.Common.{◌≡◌, ℕ, ◌≤◌, sym, ◌∙◌, ap, ap₂, subst, arith, ℤ, pos, negsuc}
+use Rattle.std.proofs.Common.{◌≡◌, ℕ, ◌≤◌, sym, ◌∙◌, ap, subst, arith, ℤ, pos, negsuc}
 use Rattle.std.proofs.Math.IntN.{nat_abs}
 use mir.Val.{Fits as FitsWidth, SFits, to_z, of_z}
 use mir.Syntax.{w64}

@@ -1,11 +1,11 @@
 -- The test for 0.
 use Rattle.std.proofs.lemmas.Bool.Decides.{nat_tests}
 use Rattle.std.proofs.Math.IntN.{nat_abs}
-use Rattle.std.proofs.Common.{◌≡◌, ◌≢◌, ℕ, zero, suc, true, false, nat_eq, refl, sym, ◌∙◌, ap, subst, arith, ℤ, pos, negsuc}
-use Rattle.rational.specs.Rational.{ℚ, ratio, whole, zeroℚ, ◌<ℚ◌}
+use Rattle.std.proofs.Common.{◌≡◌, ◌≢◌, ℕ, zero, suc, true, false, nat_eq, refl, ◌∙◌, ap, subst, arith, ℤ, pos, negsuc}
+use Rattle.rational.specs.Rational.{ℚ, whole, zeroℚ, ◌<ℚ◌}
 use Rattle.rational.proofs.Fractions.{ratio-num}
 use Rattle.rational.proofs.Order.{lt_irreflℚ}
-use Rattle.exact_lin.specs.Reckoning.{Fits, wide_limit}
+use Rattle.exact_lin.specs.Reckoning.{wide_limit}
 use Rattle.exact_lin.specs.Forms.{is_zero}
 use Rattle.exact_lin.proofs.Numbers.{zero_num, whole-fraction}
 

@@ -1,64 +1,16 @@
 //! Linear forms over ids: a constant and terms in the order of their ids.
 
-ghost use Rattle.std.specs.Prelude.{◌≡◌, ℕ, ◌+◌, ◌<◌, ◌≤◌, List, [], ◌∷◌, ◌++◌, length, map, take, drop, OnOk, IfOk, OnErr, IsErrOf, MatchOption, Err};
-ghost use Rattle.std.specs.Result.{MatchResult};
+ghost use Rattle.std.specs.Prelude.{◌≡◌, ℕ, length, map, OnOk, IfOk, OnErr, IsErrOf};
 ghost use Rattle.rational.specs.Rational.{ℚ, zeroℚ, ◌+ℚ◌, ◌*ℚ◌};
-ghost use Rattle.exact_lin.specs.Reckoning.{CanAdd, Fits, Reckons};
-ghost use Rattle.exact_lin.specs.Forms.{shown, LinearForm, IsForm, AscendFrom, Covers, terms_at, form_at, place_in, IsGap, IsTerm, values_of, coefficient, is_zero, with_term, increased, increased_by, constant_form, plus_constant, plus_term, plus_scaled, CanAddTerm, CanAddTerms, CanAddScaled, CanSumTerms, CanEvaluate};
+ghost use Rattle.exact_lin.specs.Reckoning.{CanAdd, Reckons};
+ghost use Rattle.exact_lin.specs.Forms.{shown, IsForm, Covers, form_at, values_of, constant_form, plus_constant, plus_term, plus_scaled, CanAddTerm, CanAddScaled, CanEvaluate};
 
+use crate::faults::{FormFault, NoMemory};
 use crate::ids::Id;
-use crate::scalars::{Scalar, Sign, Wide};
-use std::alloc::{AllocError, AllocFailed, Global};
-use std::cmp::Ordering;
+use crate::scalars::{Scalar, Wide};
+use crate::terms::{add_to_terms, merge, sum_terms};
+use std::alloc::Global;
 use std::marker::Model;
-
-/// There was no memory left.
-#[derive(Clone, Copy, Debug, PartialEq, Eq)]
-pub struct NoMemory;
-
-impl From<AllocError> for NoMemory {
-    fn from(_error: AllocError) -> NoMemory {
-        NoMemory
-    }
-}
-
-impl<T: Drop> From<AllocFailed<T>> for NoMemory {
-    fn from(_error: AllocFailed<T>) -> NoMemory {
-        NoMemory
-    }
-}
-
-/// Why a sum of forms was not made.
-#[derive(Clone, Copy, Debug, PartialEq, Eq)]
-pub enum FormFault {
-    /// A part of the reckoning is past the limit of the width.
-    Wide,
-
-    /// There was no memory left.
-    Memory,
-}
-
-impl From<Wide> for FormFault {
-    ghost use Rattle.std.specs.Prelude.{◌≡◌};
-    ghost use Rattle.exact_lin.specs.declared.forms.FormFault.TheVariants.{Wide as wide_fault};
-
-    ghost from_gives = { λ _ fault. fault ≡ wide_fault };
-
-    fn from(_wide: Wide) -> FormFault {
-        FormFault::Wide
-    }
-}
-
-impl From<NoMemory> for FormFault {
-    ghost use Rattle.std.specs.Prelude.{◌≡◌};
-    ghost use Rattle.exact_lin.specs.declared.forms.FormFault.TheVariants.{Memory as memory_fault};
-
-    ghost from_gives = { λ _ fault. fault ≡ memory_fault };
-
-    fn from(_memory: NoMemory) -> FormFault {
-        FormFault::Memory
-    }
-}
 
 /// A constant and terms, each an id with its coefficient. The ids ascend strictly and no coefficient is 0.
 #[derive(Drop)]
@@ -118,7 +70,8 @@ impl<V: Id, S: Scalar> Form<V, S> {
 
     /// Adds a number to the constant.
     pub fn add_constant(&mut self, c: S) -> Result<(), Wide>
-        ensures ok { OnOk result (CanAdd S.limit self.old.constant (S.value c) × (self.new ≡ plus_constant self.old (S.value c))) }
+        ensures defined { OnOk result (CanAdd S.limit self.old.constant (S.value c)) }
+        ensures form { OnOk result (self.new ≡ plus_constant self.old (S.value c)) }
         ensures wide { OnErr result (¬ (CanAdd S.limit self.old.constant (S.value c))) }
         ensures err { OnErr result (self.new ≡ self.old) }
     {
@@ -165,181 +118,4 @@ impl<V: Id, S: Scalar> Form<V, S> {
     {
         sum_terms(self.constant, self.terms.as_slice(), point)
     }
-}
-
-fn sum_terms<V: Id, S: Scalar>(start: S, terms: &[(V, S)], point: &[S]) -> Result<S, Wide>
-    requires { Covers (length point.now) (shown V.number_of S.value terms.now) }
-    ensures { Reckons S.value result (CanSumTerms S.limit (S.value start) (shown V.number_of S.value terms.now) (values_of (map S.value point.now))) (S.value start +ℚ terms_at (shown V.number_of S.value terms.now) (values_of (map S.value point.now))) }
-{
-    let mut sum = start;
-    let mut left = terms;
-    while let Some((term, later)) = left.split_first() {
-        sum = sum.add(term.1.mul(point[term.0.number() as usize])?)?;
-        left = later;
-    }
-    Ok(sum)
-}
-
-fn is_zero_scalar<S: Scalar>(c: S) -> bool
-    ensures value { result ≡ is_zero (S.value c) }
-    ensures fits { Fits S.limit (S.value c) }
-{
-    match c.sign() {
-        Sign::Zero => true,
-        Sign::Minus => false,
-        Sign::Plus => false,
-    }
-}
-
-// Puts a term at the end, unless its coefficient is 0.
-fn push_term<V: Id, S: Scalar>(terms: &mut Vec<(V, S)>, id: V, c: S) -> Result<(), NoMemory>
-    ensures { OnOk result (shown V.number_of S.value terms.new.items ≡ shown V.number_of S.value terms.old.items ++ with_term (V.number_of id) (S.value c) []) }
-{
-    if !is_zero_scalar(c) {
-        terms.push((id, c))?;
-    }
-    Ok(())
-}
-
-// The terms of one form with a multiple of those of another added, both in the order of their ids.
-fn merge<V: Id, S: Scalar>(
-    alloc: Global,
-    one: &[(V, S)],
-    by: S,
-    other: &[(V, S)],
-) -> Result<Vec<(V, S)>, FormFault>
-    requires one { AscendFrom 0 (shown V.number_of S.value one.now) }
-    requires other { AscendFrom 0 (shown V.number_of S.value other.now) }
-    ensures defined { OnOk result (CanAddTerms S.limit (shown V.number_of S.value one.now) (S.value by) (shown V.number_of S.value other.now)) }
-    ensures terms { IfOk result (λ terms. shown V.number_of S.value terms.items ≡ increased_by (shown V.number_of S.value one.now) (S.value by) (shown V.number_of S.value other.now)) }
-    ensures wide { IsErrOf result FormFault.Wide → ¬ (CanAddTerms S.limit (shown V.number_of S.value one.now) (S.value by) (shown V.number_of S.value other.now)) }
-{
-    let mut sum = Vec::new(alloc);
-    let mut left = one;
-    let mut right = other;
-    while let Some((term, later)) = right.split_first() {
-        match left.split_first() {
-            Some((first, rest)) => match first.0.number().cmp(&term.0.number()) {
-                Ordering::Less => {
-                    push(&mut sum, *first)?;
-                    left = rest;
-                }
-                Ordering::Equal => {
-                    push_term(&mut sum, term.0, first.1.add(by.mul(term.1)?)?)?;
-                    left = rest;
-                    right = later;
-                }
-                Ordering::Greater => {
-                    push_term(&mut sum, term.0, by.mul(term.1)?)?;
-                    right = later;
-                }
-            },
-            None => {
-                push_term(&mut sum, term.0, by.mul(term.1)?)?;
-                right = later;
-            }
-        }
-    }
-    match sum.extend_from_slice(left) {
-        Ok(()) => Ok(sum),
-        Err(_) => Err(FormFault::Memory),
-    }
-}
-
-// How many terms, from the first on, have ids below this number.
-fn place_of<V: Id, S: Scalar>(terms: &[(V, S)], number: u32) -> usize
-    requires { AscendFrom 0 (shown V.number_of S.value terms.now) }
-    ensures { result ≡ place_in (shown V.number_of S.value terms.now) number }
-{
-    // Terms mostly come in the order of their ids.
-    if let Some((last, _)) = terms.split_last() {
-        if last.0.number() < number {
-            return terms.len();
-        }
-    }
-    let mut left = terms;
-    while let Some((first, rest)) = left.split_first() {
-        if first.0.number() >= number {
-            break;
-        }
-        left = rest;
-    }
-    terms.len() - left.len()
-}
-
-// Adds to the term of an id, or makes or removes it.
-fn add_to_terms<V: Id, S: Scalar>(terms: &mut Vec<(V, S)>, v: V, c: S) -> Result<(), FormFault>
-    requires { AscendFrom 0 (shown V.number_of S.value terms.old.items) }
-    ensures defined { OnOk result (CanAdd S.limit (coefficient (shown V.number_of S.value terms.old.items) (V.number_of v)) (S.value c)) }
-    ensures terms { OnOk result (shown V.number_of S.value terms.new.items ≡ increased (shown V.number_of S.value terms.old.items) (V.number_of v) (S.value c)) }
-    ensures wide { IsErrOf result FormFault.Wide → ¬ (CanAdd S.limit (coefficient (shown V.number_of S.value terms.old.items) (V.number_of v)) (S.value c)) }
-    ensures err { OnErr result (terms.new.items ≡ terms.old.items) }
-{
-    let place = place_of(terms.as_slice(), v.number());
-    match coefficient_at(terms.as_slice(), v, place) {
-        Some(old) => {
-            let sum = old.add(c)?;
-            set_term(terms, place, v, sum);
-            Ok(())
-        }
-        None => insert_term(terms, place, v, c),
-    }
-}
-
-// The coefficient of an id, if it has a term at its place.
-fn coefficient_at<V: Id, S: Scalar>(terms: &[(V, S)], v: V, place: usize) -> Option<S>
-    requires terms { AscendFrom 0 (shown V.number_of S.value terms.now) }
-    requires place { place ≡ place_in (shown V.number_of S.value terms.now) (V.number_of v) }
-    ensures { MatchOption result (IsGap (shown V.number_of S.value terms.now) (V.number_of v) place) (λ old. IsTerm (shown V.number_of S.value terms.now) (V.number_of v) place (S.value old)) }
-{
-    if place >= terms.len() {
-        return None;
-    }
-    let term = terms[place];
-    if term.0.number() == v.number() {
-        Some(term.1)
-    } else {
-        None
-    }
-}
-
-// Gives the term at a place a new coefficient, or removes it where that is 0.
-fn set_term<V: Id, S: Scalar>(terms: &mut Vec<(V, S)>, place: usize, v: V, c: S)
-    requires { place < length terms.old.items }
-    ensures { shown V.number_of S.value terms.new.items ≡ take place (shown V.number_of S.value terms.old.items) ++ with_term (V.number_of v) (S.value c) (drop (place + 1) (shown V.number_of S.value terms.old.items)) }
-{
-    if is_zero_scalar(c) {
-        terms.remove(place);
-    } else {
-        terms[place] = (v, c);
-    }
-}
-
-// Puts a term at a place, unless its coefficient is 0.
-fn insert_term<V: Id, S: Scalar>(
-    terms: &mut Vec<(V, S)>,
-    place: usize,
-    v: V,
-    c: S,
-) -> Result<(), FormFault>
-    requires { place ≤ length terms.old.items }
-    ensures terms { OnOk result (shown V.number_of S.value terms.new.items ≡ take place (shown V.number_of S.value terms.old.items) ++ with_term (V.number_of v) (S.value c) (drop place (shown V.number_of S.value terms.old.items))) }
-    ensures fits { Fits S.limit (S.value c) }
-    ensures memory { OnErr result (IsErrOf result FormFault.Memory) }
-    ensures err { OnErr result (terms.new.items ≡ terms.old.items) }
-{
-    if is_zero_scalar(c) {
-        return Ok(());
-    }
-    match terms.insert(place, (v, c)) {
-        Ok(()) => Ok(()),
-        Err(_) => Err(FormFault::Memory),
-    }
-}
-
-fn push<T: Copy + Drop>(items: &mut Vec<T>, item: T) -> Result<(), NoMemory>
-    ensures { OnOk result (items.new.items ≡ items.old.items ++ item ∷ []) }
-{
-    items.push(item)?;
-    Ok(())
 }

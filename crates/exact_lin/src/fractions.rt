@@ -13,11 +13,11 @@ use crate::scalars::{Scalar, Sign, Wide};
 use std::cmp::Ordering;
 use std::marker::Model;
 
-/// The largest part of a [`Fraction`], 2^127 - 1.
-pub const WIDE_LIMIT: u128 = 170141183460469231731687303715884105727;
+// The largest part of a [`Fraction`], 2^127 - 1.
+const WIDE_LIMIT: u128 = 170141183460469231731687303715884105727;
 
-/// The largest part of a [`Narrow`], 2^63 - 1.
-pub const NARROW_LIMIT: u128 = 9223372036854775807;
+// The largest part of a [`Narrow`], 2^63 - 1.
+const NARROW_LIMIT: u128 = 9223372036854775807;
 
 /// An exact fraction in lowest terms. Its denominator is at least 1, and neither part is past 2^127 - 1.
 #[derive(Clone, Copy, Debug, PartialEq, Eq)]

@@ -1,10 +1,10 @@
-use Rattle.std.proofs.Common.{sym, subst, List, ap}
+use Rattle.std.proofs.Common.{sym, subst, ap}
 use Rattle.rational.specs.Rational.{ℚ}
 use Rattle.exact_lin.specs.Reckoning.{CanAdd}
 use Rattle.exact_lin.specs.Forms.{shown, Terms, IsGap}
 use Rattle.exact_lin.proofs.Edits.{OnOk-always}
 use Rattle.exact_lin.proofs.Results.{CanAdd-zero}
-use Rattle.exact_lin.proofs.forms.add_to_terms.Goals as goal
+use Rattle.exact_lin.proofs.terms.add_to_terms.Goals as goal
 
 pub returns-in-None-clause-defined : goal.returns-in-None-clause-defined
 returns-in-None-clause-defined g c = let number = g.V.Id.number_of in let value = g.S.Scalar.value in

@@ -1,6 +1,6 @@
 use Rattle.std.proofs.Common.{◌≡◌, ◌+◌, length}
 use Rattle.exact_lin.specs.Forms.{shown, place_in}
-use Rattle.exact_lin.proofs.forms.place_of.Given as goal
+use Rattle.exact_lin.proofs.terms.place_of.Given as goal
 
 abbrev pub invariant-loop-first : goal.invariant-loop-first
 invariant-loop-first g l = let shows = shown g.V.Id.number_of g.S.Scalar.value in

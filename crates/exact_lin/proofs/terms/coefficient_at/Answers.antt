@@ -1,6 +1,6 @@
 use Rattle.std.proofs.Common.{sym, ◌∙◌}
 use Rattle.exact_lin.proofs.Edits.{term-there, gap-end, gap-there}
-use Rattle.exact_lin.proofs.forms.coefficient_at.Goals as goal
+use Rattle.exact_lin.proofs.terms.coefficient_at.Goals as goal
 
 pub returns-then-place-terms : goal.returns-then-place-terms
 returns-then-place-terms g c = gap-end g.V.Id.number_of g.S.Scalar.value c.args.terms.now c.args.place (g.V.Id.number_of c.args.v) c.requires.place c.requires.terms c.if-place-terms.true
