@@ -1,6 +1,6 @@
 //! Fractions in lowest terms, with parts of 128 and of 64 bits.
 
-ghost use Rattle.std.specs.Prelude.{◌≡◌, ◌≢◌, ℕ, ◌<◌, ◌≤◌, ℤ, pos, ◌<ℤ◌, unsigned_abs};
+ghost use Rattle.std.specs.Prelude.{◌≡◌, ◌≢◌, ℕ, ◌<◌, ◌≤◌, ℤ, pos, ◌<ℤ◌, unsigned_abs, ◌↔◌, IsTrue};
 ghost use Rattle.std.specs.Option.{SomeIff};
 ghost use Rattle.std.specs.Result.{OkIff};
 ghost use Rattle.std.specs.Ordering.{MatchOrdering};
@@ -194,11 +194,17 @@ impl Fraction {
     pub fn narrow(self) -> Option<Narrow>
         ensures { SomeIff result (Fits narrow_limit self) self }
     {
-        if self.num.unsigned_abs() <= NARROW_LIMIT && self.den <= NARROW_LIMIT {
+        if self.is_within(NARROW_LIMIT) {
             Some(self.narrowed())
         } else {
             None
         }
+    }
+
+    fn is_within(self, limit: u128) -> bool
+        ensures { IsTrue result ↔ Fits limit self }
+    {
+        self.num.unsigned_abs() <= limit && self.den <= limit
     }
 
     fn narrowed(self) -> Narrow
