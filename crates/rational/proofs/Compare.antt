@@ -1,15 +1,14 @@
--- What a comparison says, and that it is a total order in the library's sense; closed numbers compute.
-use Rattle.std.proofs.Common.{[], ◌∷◌, ap, ap₂, sym, subst, ℕ, ℤ, Bool, true, false, ◌&&◌, int_eq, nat_eq, arith, ◌≡◌, refl, pos, negsuc, ◌*ℤ◌, ◌<ℤ◌, Less, Equal, Greater, ◌^◌, ◌*◌, ◌-◌}
+-- What a comparison says, and that it is a total order in the library's sense.
+use Rattle.std.proofs.Common.{ap, ap₂, sym, subst, ℕ, ℤ, Bool, true, false, ◌&&◌, int_eq, nat_eq, arith, ◌≡◌, refl, pos, ◌*ℤ◌, ◌<ℤ◌, Less, Equal, Greater}
 use Rattle.std.specs.Ordering.{MatchOrdering, int_cmp}
 use Rattle.std.specs.declared.cmp.Ordering.{Ordering}
 use Rattle.std.specs.Cmp.{int_ranks}
-use Rattle.rational.specs.Rational.{ℚ, ratio, ◌+ℚ◌, ◌<ℚ◌, cmp_ℚ}
+use Rattle.rational.specs.Rational.{ℚ, ◌<ℚ◌, cmp_ℚ}
 use Rattle.std.specs.Ordering.{ordering_reverse, eq_by_cmp, is_eq}
 use Rattle.std.proofs.lemmas.Bool.Decides.{nat_tests}
 use Rattle.rational.proofs.Order.{lt_irreflℚ}
 use Rattle.std.specs.Cmp.{int_cmp_is, int_cmp_total, IsTotalOrder}
-use Rattle.rational.proofs.Elimination.{less}
-use Rattle.rational.proofs.Solve.{lt3}
+use Rattle.rational.proofs.Inequalities.{lt_transℚ}
 use Rattle.rational.proofs.Fractions.{equal_from_cross}
 
 ranks_of : (o : Ordering) (q r : ℚ) → MatchOrdering o ((q.num *ℤ pos r.den) <ℤ (r.num *ℤ pos q.den)) (q.num *ℤ pos r.den ≡ r.num *ℤ pos q.den) ((r.num *ℤ pos q.den) <ℤ (q.num *ℤ pos r.den)) → MatchOrdering o (q <ℚ r) (q ≡ r) (r <ℚ q)
@@ -17,13 +16,10 @@ ranks_of Less q r m = record { lt = m }
 ranks_of Equal q r m = equal_from_cross q r m
 ranks_of Greater q r m = record { lt = m }
 
+-- a comparison says which of the three holds
 pub ranksℚ : (q r : ℚ) → MatchOrdering (cmp_ℚ q r) (q <ℚ r) (q ≡ r) (r <ℚ q)
 unfolding cmp_ℚ
 ranksℚ q r = ranks_of (int_cmp (q.num *ℤ pos r.den) (r.num *ℤ pos q.den)) q r (int_ranks (q.num *ℤ pos r.den) (r.num *ℤ pos q.den))
-
-large : ratio (pos (10 ^ 30)) (10 ^ 18 * 3) +ℚ ratio (negsuc 0) 3 ≡ ratio (pos (10 ^ 12 - 1)) 3
-unfolding ratio ◌+ℚ◌
-large = refl
 
 from_less : (o : Ordering) (A B C : Type 0) → MatchOrdering o A B C → o ≡ Less → A
 from_less Less A B C m e = m
@@ -39,17 +35,15 @@ pub lt-is_less : (q r : ℚ) → q <ℚ r → cmp_ℚ q r ≡ Less
 unfolding cmp_ℚ
 lt-is_less q r h = sym (int_cmp_is (q.num *ℤ pos r.den) (r.num *ℤ pos q.den) Less h.lt)
 
-lt_trans : (q r s : ℚ) → q <ℚ r → r <ℚ s → q <ℚ s
-lt_trans q r s h k = lt3 q r s (λ q r s. record { facts = less q r ∷ less r s ∷ []; low = q; high = s }) (h, (k, tt)) (refl, refl)
-
 cmp_turned : (q r : ℚ) → cmp_ℚ q r ≡ ordering_reverse (cmp_ℚ r q)
 unfolding cmp_ℚ
 cmp_turned q r = int_cmp_total.antisymm (q.num *ℤ pos r.den) (r.num *ℤ pos q.den)
 
+-- the law that `Ord` asks for
 pub cmp_ℚ_total : IsTotalOrder cmp_ℚ
 cmp_ℚ_total = record {
   antisymm = cmp_turned;
-  trans = λ q r s h k. lt-is_less q s (lt_trans q r s (from_less (cmp_ℚ q r) (q <ℚ r) (q ≡ r) (r <ℚ q) (ranksℚ q r) h) (from_less (cmp_ℚ r s) (r <ℚ s) (r ≡ s) (s <ℚ r) (ranksℚ r s) k));
+  trans = λ q r s h k. lt-is_less q s (lt_transℚ q r s (from_less (cmp_ℚ q r) (q <ℚ r) (q ≡ r) (r <ℚ q) (ranksℚ q r) h) (from_less (cmp_ℚ r s) (r <ℚ s) (r ≡ s) (s <ℚ r) (ranksℚ r s) k));
   congr = λ q r s h. ap (λ x. cmp_ℚ x s) (from_equal (cmp_ℚ q r) (q <ℚ r) (q ≡ r) (r <ℚ q) (ranksℚ q r) h);
 }
 

@@ -10,7 +10,7 @@ use Rattle.rational.specs.Gcd.{gcd}
 use Rattle.rational.specs.Divisors.{gcd-is, same_denominator}
 use Rattle.rational.specs.Lowest.{is_lowest, over, over-times, lowest_out}
 use Rattle.rational.specs.Rational.{ℚ, ratio}
-use Rattle.rational.proofs.Ring.{var, times, minus, ring, combine}
+use Rattle.rational.proofs.Ring.{minus, ◌⊗◌, ◌≐◌, law, combine}
 use Rattle.rational.proofs.Integers.{ℤ_ring}
 
 pub den_pos : (q : ℚ) → 0 < q.den
@@ -41,7 +41,7 @@ equal_from_cross q r e = same q r (cancel q.num r.num q.den (den_pos q) (subst (
 over-cross : (a : ℤ) (b : ℕ) → over a (gcd (nat_abs a) b) *ℤ pos b ≡ a *ℤ pos (b / gcd (nat_abs a) b)
 over-cross a b =
     ap (λ (d : ℕ). o *ℤ pos d) (sym (div-mul_cancel g (gcd-is (nat_abs a) b).1))
-    ∙ ring ℤ_ring (o ∷ pos (b / g) ∷ pos g ∷ []) (times (var 0) (times (var 1) (var 2))) (times (times (var 0) (var 2)) (var 1)) refl
+    ∙ law ℤ_ring (o ∷ pos (b / g) ∷ pos g ∷ []) (λ o n g. o ⊗ (n ⊗ g) ≐ o ⊗ g ⊗ n) refl
     ∙ ap (λ z. z *ℤ pos (b / g)) (over-times a b)
   where
     g : ℕ
@@ -58,16 +58,14 @@ ratio-cross a (suc d) h = over-cross a (suc d)
 pub cross_from_equal : (a : ℤ) (b : ℕ) (c : ℤ) (d : ℕ) → 0 < b → 0 < d → ratio a b ≡ ratio c d → a *ℤ pos d ≡ c *ℤ pos b
 cross_from_equal a b c d h k e = cancel (a *ℤ pos d) (c *ℤ pos b) (ratio a b).den (den_pos (ratio a b))
     (combine ℤ_ring (a ∷ pos b ∷ c ∷ pos d ∷ (ratio a b).num ∷ pos (ratio a b).den ∷ [])
-    ((minus (var 3), times (var 4) (var 1), times (var 0) (var 5)) ∷ (var 1, times (var 4) (var 3), times (var 2) (var 5)) ∷ [])
-    (times (times (var 0) (var 3)) (var 5)) (times (times (var 2) (var 1)) (var 5))
+    (λ a b c d n m. record { from = (minus d, n ⊗ b ≐ a ⊗ m) ∷ (b, n ⊗ d ≐ c ⊗ m) ∷ []; goal = a ⊗ d ⊗ m ≐ c ⊗ b ⊗ m })
     (ratio-cross a b h, (subst (λ (q : ℚ). q.num *ℤ pos d ≡ c *ℤ pos q.den) (sym e) (ratio-cross c d k), tt)) refl)
 
 pub equal_ratios : (a : ℤ) (b : ℕ) (c : ℤ) (d : ℕ) → 0 < b → 0 < d → a *ℤ pos d ≡ c *ℤ pos b → ratio a b ≡ ratio c d
 equal_ratios a b c d h k e = equal_from_cross (ratio a b) (ratio c d)
     (cancel _ _ b h (cancel _ _ d k
     (combine ℤ_ring (a ∷ pos b ∷ c ∷ pos d ∷ (ratio a b).num ∷ pos (ratio a b).den ∷ (ratio c d).num ∷ pos (ratio c d).den ∷ [])
-    ((times (var 7) (var 3), times (var 4) (var 1), times (var 0) (var 5)) ∷ (minus (times (var 5) (var 1)), times (var 6) (var 3), times (var 2) (var 7)) ∷ (times (var 5) (var 7), times (var 0) (var 3), times (var 2) (var 1)) ∷ [])
-    (times (times (times (var 4) (var 7)) (var 1)) (var 3)) (times (times (times (var 6) (var 5)) (var 1)) (var 3))
+    (λ a b c d n m k l. record { from = (l ⊗ d, n ⊗ b ≐ a ⊗ m) ∷ (minus (m ⊗ b), k ⊗ d ≐ c ⊗ l) ∷ (m ⊗ l, a ⊗ d ≐ c ⊗ b) ∷ []; goal = n ⊗ l ⊗ b ⊗ d ≐ k ⊗ m ⊗ b ⊗ d })
     (ratio-cross a b h, (ratio-cross c d k, (e, tt))) refl)))
 
 pub ratio-parts : (q : ℚ) → ratio q.num q.den ≡ q

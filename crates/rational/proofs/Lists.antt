@@ -1,33 +1,47 @@
 -- Sums of products over lists.
-use Rattle.std.proofs.Common.{◌≡◌, refl, ◌∙◌, ap, List, [], ◌∷◌}
-use Rattle.std.proofs.Math.IntN.{pos}
+use Rattle.std.proofs.Common.{◌≡◌, refl, ◌∙◌, ap, List, [], ◌∷◌, ◌++◌}
 use Rattle.rational.specs.Rational.{ℚ, zeroℚ, ◌+ℚ◌, ◌*ℚ◌, ◌≤ℚ◌}
-use Rattle.rational.proofs.Ring.{var, lit, plus, times, ring}
+use Rattle.rational.specs.Lists.{sum_list, dot, add_list, scale_list, Nonneg}
+use Rattle.rational.proofs.Ring.{◌⊕◌, ◌⊗◌, num, ◌≼◌, ◌≐◌, law}
 use Rattle.rational.proofs.Field.{ℚ_ring}
-use Rattle.rational.proofs.Linear.{at_most, le_from}
-use Rattle.rational.specs.Lists.{dot, add_list, scale_list, Nonneg}
 use Rattle.rational.proofs.Order.{ℚ_ordered, mul_leℚ}
+use Rattle.rational.proofs.Inequalities.{le_reflℚ}
+use Rattle.rational.proofs.Solve.{◌⊢◌, linear}
+
+pub sum_list-append : (u v : List ℚ) → sum_list (u ++ v) ≡ sum_list u +ℚ sum_list v
+sum_list-append [] v = law ℚ_ring (sum_list v ∷ []) (λ s. s ≐ num 0 ⊕ s) refl
+sum_list-append (a ∷ u) v =
+    ap (λ z. a +ℚ z) (sum_list-append u v)
+    ∙ law ℚ_ring (a ∷ sum_list u ∷ sum_list v ∷ []) (λ a s t. a ⊕ (s ⊕ t) ≐ a ⊕ s ⊕ t) refl
+
+pub dot-empty : (u : List ℚ) → dot u [] ≡ zeroℚ
+dot-empty [] = refl
+dot-empty (a ∷ u) = refl
+
+pub dot-comm : (u x : List ℚ) → dot u x ≡ dot x u
+dot-comm [] [] = refl
+dot-comm [] (b ∷ x) = refl
+dot-comm (a ∷ u) [] = refl
+dot-comm (a ∷ u) (b ∷ x) =
+    ap (λ z. a *ℚ b +ℚ z) (dot-comm u x)
+    ∙ law ℚ_ring (a ∷ b ∷ dot x u ∷ []) (λ a b s. a ⊗ b ⊕ s ≐ b ⊗ a ⊕ s) refl
 
 pub dot-add : (u v x : List ℚ) → dot (add_list u v) x ≡ dot u x +ℚ dot v x
-dot-add [] v x = ring ℚ_ring (dot v x ∷ []) (var 0) (plus (lit (pos 0)) (var 0)) refl
-dot-add (a ∷ u) [] x = ring ℚ_ring (dot (a ∷ u) x ∷ []) (var 0) (plus (var 0) (lit (pos 0))) refl
-dot-add (a ∷ u) (b ∷ v) [] = ring ℚ_ring [] (lit (pos 0)) (plus (lit (pos 0)) (lit (pos 0))) refl
+dot-add [] v x = law ℚ_ring (dot v x ∷ []) (λ s. s ≐ num 0 ⊕ s) refl
+dot-add (a ∷ u) [] x = law ℚ_ring (dot (a ∷ u) x ∷ []) (λ s. s ≐ s ⊕ num 0) refl
+dot-add (a ∷ u) (b ∷ v) [] = law ℚ_ring [] (num 0 ≐ num 0 ⊕ num 0) refl
 dot-add (a ∷ u) (b ∷ v) (c ∷ x) =
     ap (λ z. (a +ℚ b) *ℚ c +ℚ z) (dot-add u v x)
-    ∙ ring ℚ_ring (a ∷ b ∷ c ∷ dot u x ∷ dot v x ∷ []) (plus (times (plus (var 0) (var 1)) (var 2)) (plus (var 3) (var 4))) (plus (plus (times (var 0) (var 2)) (var 3)) (plus (times (var 1) (var 2)) (var 4))) refl
+    ∙ law ℚ_ring (a ∷ b ∷ c ∷ dot u x ∷ dot v x ∷ []) (λ a b c s t. (a ⊕ b) ⊗ c ⊕ (s ⊕ t) ≐ a ⊗ c ⊕ s ⊕ (b ⊗ c ⊕ t)) refl
 
 pub dot-scale : (y : ℚ) (u x : List ℚ) → dot (scale_list y u) x ≡ y *ℚ dot u x
-dot-scale y [] x = ring ℚ_ring (y ∷ []) (lit (pos 0)) (times (var 0) (lit (pos 0))) refl
-dot-scale y (a ∷ u) [] = ring ℚ_ring (y ∷ []) (lit (pos 0)) (times (var 0) (lit (pos 0))) refl
+dot-scale y [] x = law ℚ_ring (y ∷ []) (λ y. num 0 ≐ y ⊗ num 0) refl
+dot-scale y (a ∷ u) [] = law ℚ_ring (y ∷ []) (λ y. num 0 ≐ y ⊗ num 0) refl
 dot-scale y (a ∷ u) (c ∷ x) =
     ap (λ z. (y *ℚ a) *ℚ c +ℚ z) (dot-scale y u x)
-    ∙ ring ℚ_ring (y ∷ a ∷ c ∷ dot u x ∷ []) (plus (times (times (var 0) (var 1)) (var 2)) (times (var 0) (var 3))) (times (var 0) (plus (times (var 1) (var 2)) (var 3))) refl
-
-pub zero_le : zeroℚ ≤ℚ zeroℚ
-zero_le = le_from ℚ_ordered [] 0 0 [] (lit (pos 0)) (lit (pos 0)) tt refl
+    ∙ law ℚ_ring (y ∷ a ∷ c ∷ dot u x ∷ []) (λ y a c s. y ⊗ a ⊗ c ⊕ y ⊗ s ≐ y ⊗ (a ⊗ c ⊕ s)) refl
 
 pub dot-nonneg : (u x : List ℚ) → Nonneg u → Nonneg x → zeroℚ ≤ℚ dot u x
-dot-nonneg [] x h k = zero_le
-dot-nonneg (a ∷ u) [] h k = zero_le
-dot-nonneg (a ∷ u) (b ∷ x) h k = le_from ℚ_ordered ((a *ℚ b) ∷ dot u x ∷ []) 0 0 (at_most 1 (lit (pos 0)) (var 0) ∷ at_most 1 (lit (pos 0)) (var 1) ∷ []) (lit (pos 0)) (plus (var 0) (var 1))
-    (mul_leℚ a b h.0 k.0, (dot-nonneg u x h.1 k.1, tt)) refl
+dot-nonneg [] x h k = le_reflℚ zeroℚ
+dot-nonneg (a ∷ u) [] h k = le_reflℚ zeroℚ
+dot-nonneg (a ∷ u) (b ∷ x) h k = linear ℚ_ordered ((a *ℚ b) ∷ dot u x ∷ []) (λ p s. (num 0 ≼ p ∷ num 0 ≼ s ∷ []) ⊢ num 0 ≼ p ⊕ s) (mul_leℚ a b h.0 k.0, (dot-nonneg u x h.1 k.1, tt)) refl

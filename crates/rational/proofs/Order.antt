@@ -5,10 +5,10 @@ use Rattle.std.proofs.lemmas.Int.{ints, by_lt_z}
 use native.Mathlib.Nat.{mul-pos, mul-le-mul_right, mul-lt-mul_of_pos_right, le_of_mul-le-mul_right, lt_of_mul-lt-mul_right, zero-lt-suc}
 use borrow.Author.Differences.{product_is, le_out, lt_out, at_most_in, below_in}
 use Rattle.rational.specs.Rational.{ℚ, ratio, whole, ◌+ℚ◌, ◌*ℚ◌, neg_ℚ, inverse, reciprocal, ◌≤ℚ◌, ◌<ℚ◌}
-use Rattle.rational.proofs.Ring.{var, lit, plus, times, minus, ring, combine}
+use Rattle.rational.proofs.Ring.{minus, ◌⊕◌, ◌⊗◌, ◌⊖◌, num, ◌≐◌, law, combine}
 use Rattle.rational.proofs.Integers.{ℤ_ring}
 use Rattle.rational.proofs.Fractions.{den_pos, equal_from_cross, ratio-cross, equal_ratios, ratio-parts}
-use Rattle.rational.proofs.Field.{add-ratio, mul-ratio, neg-ratio, by_ratio, ℚ_ring}
+use Rattle.rational.proofs.Field.{add-ratio, mul-ratio, neg-ratio, ℚ_ring}
 use Rattle.rational.proofs.Linear.{Ordered}
 
 -- ---- ℤ: a positive factor keeps the order, both ways
@@ -32,14 +32,12 @@ same_lt x y u v k m p e f h = untimes_lt u v m (subst (λ (z : ℤ). z <ℤ (v *
 
 left : (a : ℤ) (b : ℕ) (c : ℤ) (d : ℕ) → 0 < b → 0 < d → ((ratio a b).num *ℤ pos (ratio c d).den) *ℤ pos (b * d) ≡ (a *ℤ pos d) *ℤ pos ((ratio a b).den * (ratio c d).den)
 left a b c d h k = combine ℤ_ring (a ∷ pos b ∷ pos d ∷ (ratio a b).num ∷ pos (ratio a b).den ∷ pos (ratio c d).den ∷ [])
-    ((times (var 5) (var 2), times (var 3) (var 1), times (var 0) (var 4)) ∷ [])
-    (times (times (var 3) (var 5)) (times (var 1) (var 2))) (times (times (var 0) (var 2)) (times (var 4) (var 5)))
+    (λ a b d n m k. record { from = (k ⊗ d, n ⊗ b ≐ a ⊗ m) ∷ []; goal = n ⊗ k ⊗ (b ⊗ d) ≐ a ⊗ d ⊗ (m ⊗ k) })
     (ratio-cross a b h, tt) refl
 
 right : (a : ℤ) (b : ℕ) (c : ℤ) (d : ℕ) → 0 < b → 0 < d → ((ratio c d).num *ℤ pos (ratio a b).den) *ℤ pos (b * d) ≡ (c *ℤ pos b) *ℤ pos ((ratio a b).den * (ratio c d).den)
 right a b c d h k = combine ℤ_ring (c ∷ pos b ∷ pos d ∷ (ratio c d).num ∷ pos (ratio a b).den ∷ pos (ratio c d).den ∷ [])
-    ((times (var 4) (var 1), times (var 3) (var 2), times (var 0) (var 5)) ∷ [])
-    (times (times (var 3) (var 4)) (times (var 1) (var 2))) (times (times (var 0) (var 1)) (times (var 4) (var 5)))
+    (λ c b d n m k. record { from = (m ⊗ b, n ⊗ d ≐ c ⊗ k) ∷ []; goal = n ⊗ m ⊗ (b ⊗ d) ≐ c ⊗ b ⊗ (m ⊗ k) })
     (ratio-cross c d k, tt) refl
 
 dens_pos : (q r : ℚ) → 0 < q.den * r.den
@@ -83,7 +81,7 @@ difference-is q r =
     ap₂ (λ x y. x +ℚ neg_ℚ y) (sym (ratio-parts r)) (sym (ratio-parts q))
     ∙ ap (λ z. ratio r.num r.den +ℚ z) (neg-ratio q.num q.den (den_pos q))
     ∙ add-ratio r.num r.den (neg_ℤ q.num) q.den (den_pos r) (den_pos q)
-    ∙ ap (λ z. ratio z (r.den * q.den)) (ring ℤ_ring (q.num ∷ pos q.den ∷ r.num ∷ pos r.den ∷ []) (plus (times (var 2) (var 1)) (times (minus (var 0)) (var 3))) (plus (times (var 2) (var 1)) (minus (times (var 0) (var 3)))) refl)
+    ∙ ap (λ z. ratio z (r.den * q.den)) (law ℤ_ring (q.num ∷ pos q.den ∷ r.num ∷ pos r.den ∷ []) (λ qn qd rn rd. rn ⊗ qd ⊕ minus qn ⊗ rd ≐ rn ⊗ qd ⊖ qn ⊗ rd) refl)
 
 pub le_subℚ : (q r : ℚ) → q ≤ℚ r → whole (pos 0) ≤ℚ (r +ℚ neg_ℚ q)
 le_subℚ q r h = subst (λ z. whole (pos 0) ≤ℚ z) (sym (difference-is q r)) (nonneg_in _ _ (dens_pos r q) (shift _ _ h.le))
@@ -167,31 +165,11 @@ pub whole-positive : (n : ℕ) → whole (pos 0) <ℚ whole (pos (suc n))
 unfolding whole
 whole-positive n = positive_in (pos (suc n)) 1 one_pos (pos-positive (suc n) (omega arith))
 
-unscale_le : (n : ℕ) (a : ℤ) → pos 0 ≤ℤ (pos (suc n) *ℤ a) → pos 0 ≤ℤ a
-unscale_le n (pos a) h = pos-nonneg a
-unscale_le n (negsuc a) h = absurd (omega (arith, ints))
-
-unscale_lt : (n : ℕ) (a : ℤ) → pos 0 <ℤ (pos (suc n) *ℤ a) → pos 0 <ℤ a
-unscale_lt n (pos zero) h = absurd (omega (arith, ints))
-unscale_lt n (pos (suc a)) h = omega (arith, ints)
-unscale_lt n (negsuc a) h = absurd (omega (arith, ints))
-
-pub cancel_leℚ : (n : ℕ) (q : ℚ) → whole (pos 0) ≤ℚ (whole (pos (suc n)) *ℚ q) → whole (pos 0) ≤ℚ q
-unfolding whole
-cancel_leℚ n = by_ratio _ λ a b h l. nonneg_in a b h (unscale_le n a (nonneg_out _ (1 * b) (mul-pos one_pos h) (subst (λ z. whole (pos 0) ≤ℚ z) (mul-ratio (pos (suc n)) 1 a b one_pos h) l)))
-
-pub cancel_ltℚ : (n : ℕ) (q : ℚ) → whole (pos 0) <ℚ (whole (pos (suc n)) *ℚ q) → whole (pos 0) <ℚ q
-unfolding whole
-cancel_ltℚ n = by_ratio _ λ a b h l. positive_in a b h (unscale_lt n a (positive_out _ (1 * b) (mul-pos one_pos h) (subst (λ z. whole (pos 0) <ℚ z) (mul-ratio (pos (suc n)) 1 a b one_pos h) l)))
-
 pub lt_irreflℚ : (q : ℚ) → q <ℚ q → ⊥
 lt_irreflℚ q h = not_below _ h.lt
   where
     not_below : (x : ℤ) → x <ℤ x → ⊥
     not_below x l = omega (arith, ints)
-
-abbrev pub ℚ_ordered : Ordered
-ℚ_ordered = record { r = ℚ_ring; le = ◌≤ℚ◌; lt = ◌<ℚ◌; le_sub = le_subℚ; sub_le = sub_leℚ; lt_sub = lt_subℚ; sub_lt = sub_ltℚ; add_le = add_leℚ; add_lt = add_ltℚ; lt_le = lt_leℚ; of_le = whole-nonneg; of_lt = whole-positive; mul_le = mul_leℚ; mul_lt = mul_ltℚ; cancel_le = cancel_leℚ; cancel_lt = cancel_ltℚ; lt_irrefl = lt_irreflℚ }
 
 -- ---- a total order
 pub le_or_gt : (q r : ℚ) → (q ≤ℚ r) ⊎ (r <ℚ q)
@@ -203,6 +181,25 @@ le_antisymmℚ q r h k = equal_from_cross q r (both_ways _ _ h.le k.le)
     both_ways : (x y : ℤ) → x ≤ℤ y → y ≤ℤ x → x ≡ y
     both_ways x y l m = omega (arith, ints)
 
+abbrev pub ℚ_ordered : Ordered
+ℚ_ordered = record {
+  r = ℚ_ring;
+  le = ◌≤ℚ◌;
+  lt = ◌<ℚ◌;
+  le_sub = le_subℚ;
+  lt_sub = lt_subℚ;
+  add_le = add_leℚ;
+  add_lt = add_ltℚ;
+  mul_le = mul_leℚ;
+  mul_lt = mul_ltℚ;
+  of_le = whole-nonneg;
+  of_lt = whole-positive;
+  lt_le = lt_leℚ;
+  lt_irrefl = lt_irreflℚ;
+  le_or_gt = le_or_gt;
+  antisym = le_antisymmℚ;
+}
+
 -- ---- the inverse
 not_zero : (q : ℚ) → ¬ (q ≡ whole (pos 0)) → ¬ (q.num ≡ pos 0)
 unfolding whole
@@ -210,7 +207,7 @@ not_zero q n e = n (equal_from_cross q (ratio (pos 0) 1) (ap (λ z. z *ℤ pos (
   where
     zeros : (d : ℕ) → (ratio (pos 0) 1).num *ℤ pos d ≡ pos 0 *ℤ pos (ratio (pos 0) 1).den
     zeros d = combine ℤ_ring ((ratio (pos 0) 1).num ∷ pos d ∷ pos (ratio (pos 0) 1).den ∷ [])
-        ((var 1, times (var 0) (lit (pos 1)), times (lit (pos 0)) (var 2)) ∷ []) (times (var 0) (var 1)) (times (lit (pos 0)) (var 2))
+        (λ n d m. record { from = (d, n ⊗ num 1 ≐ num 0 ⊗ m) ∷ []; goal = n ⊗ d ≐ num 0 ⊗ m })
         (ratio-cross (pos 0) 1 one_pos, tt) refl
 
 pub mul-inverse : (q : ℚ) → ¬ (q ≡ whole (pos 0)) → q *ℚ inverse q ≡ whole (pos 1)
@@ -221,7 +218,7 @@ mul-inverse q n = ap (λ z. z *ℚ reciprocal q.num q.den) (sym (ratio-parts q))
     one n d h k = omega (arith, ints)
 
     other : (n d : ℕ) → (negsuc n *ℤ neg_ℤ (pos d)) *ℤ pos 1 ≡ pos 1 *ℤ pos (d * suc n)
-    other n d = ring ℤ_ring (pos (suc n) ∷ pos d ∷ []) (times (times (minus (var 0)) (minus (var 1))) (lit (pos 1))) (times (lit (pos 1)) (times (var 1) (var 0))) refl
+    other n d = law ℤ_ring (pos (suc n) ∷ pos d ∷ []) (λ n d. minus n ⊗ minus d ⊗ num 1 ≐ num 1 ⊗ (d ⊗ n)) refl
 
     go : (n : ℤ) (d : ℕ) → 0 < d → ¬ (n ≡ pos 0) → ratio n d *ℚ reciprocal n d ≡ ratio (pos 1) 1
     go (pos zero) d h e = absurd (e refl)

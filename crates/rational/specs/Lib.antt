@@ -5,3 +5,5 @@ pub mod Rational
 pub mod Lists
 pub mod Rows
 pub mod Segment
+pub mod Extremes
+pub mod Laws

@@ -2,6 +2,11 @@
 use Rattle.std.specs.Prelude.{List, [], ◌∷◌}
 use Rattle.rational.specs.Rational.{ℚ, zeroℚ, ◌+ℚ◌, ◌*ℚ◌, ◌≤ℚ◌}
 
+-- a₁ + a₂ + ..
+abbrev pub sum_list : List ℚ → ℚ
+sum_list [] = zeroℚ
+sum_list (a ∷ u) = a +ℚ sum_list u
+
 -- a₁ x₁ + a₂ x₂ + ..
 abbrev pub dot : List ℚ → List ℚ → ℚ
 dot [] x = zeroℚ

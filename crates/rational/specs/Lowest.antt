@@ -7,10 +7,12 @@ use borrow.Author.Differences.{same_in, product_is, neg_is}
 use Rattle.rational.specs.Gcd.{gcd}
 use Rattle.rational.specs.Divisors.{gcd-is, gcd_pos, gcd-from-is, lowest}
 
+-- the quotient n / g, the sign kept; used where g divides n
 abbrev pub over : ℤ → ℕ → ℤ
 over (pos n) g = pos (n / g)
 over (negsuc n) g = neg_ℤ (pos (suc n / g))
 
+-- n / d is in lowest terms: d is above 0, and nothing but 1 divides both
 abbrev pub is_lowest : ℤ → ℕ → Bool
 is_lowest n d = ltb 0 d && eqb (gcd (nat_abs n) d) 1
 

@@ -3,6 +3,7 @@ use Rattle.std.specs.Prelude.{List, [], ◌∷◌}
 use Rattle.rational.specs.Rational.{ℚ, zeroℚ, ◌+ℚ◌, ◌*ℚ◌, ◌≤ℚ◌}
 use Rattle.rational.specs.Lists.{dot, add_list, scale_list}
 
+-- the row: factors a₁, a₂, .. and the bound b
 pub record Row : Type 0 where
   pub factors : List ℚ
   pub bound : ℚ

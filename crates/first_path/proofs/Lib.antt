@@ -1,0 +1,6 @@
+pub mod Bounds
+pub mod Fitting
+pub mod Segments
+pub mod States
+pub mod Verdicts
+pub mod Uniqueness

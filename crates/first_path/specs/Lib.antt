@@ -1,0 +1,5 @@
+pub mod Meaning
+pub mod Validity
+pub mod Course
+pub mod Laws
+pub mod Grammar

@@ -1,0 +1,14 @@
+//! Tasks of one fluent and one durative action, and plans of one line: what such a plan means, and a validator
+//! that decides it exactly.
+#![tactic(auto)]
+
+mod grammar;
+mod laws;
+mod model;
+mod numbers;
+mod reckoned;
+mod validator;
+
+pub use laws::{places_are_one, verdicts_are_one};
+pub use model::{Bound, Direction, PlanLine, Reason, Rules, Side, Task, Undefined, Verdict};
+pub use validator::validate;

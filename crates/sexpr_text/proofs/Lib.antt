@@ -1,0 +1,7 @@
+pub mod Places
+pub mod Heights
+pub mod Spans
+pub mod Faults
+pub mod Scanning
+pub mod Joining
+pub mod Unique
