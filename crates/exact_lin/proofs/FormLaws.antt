@@ -2,8 +2,8 @@
 use Rattle.std.proofs.Common.{◌≡◌, ◌≢◌, ℕ, ◌+◌, ◌<◌, ◌≤◌, sym, ◌∙◌, ap, ap₂, subst, refl, arith, [], ◌∷◌, Less, Equal, Greater, Ordering, Bool, true, false, if◌then◌else◌}
 use Rattle.std.specs.Ordering.{nat_cmp, match_ordering}
 use Rattle.rational.specs.Rational.{ℚ, zeroℚ, ◌+ℚ◌, ◌*ℚ◌}
-use Rattle.rational.proofs.Field.{zero_addℚ, zero_mulℚ, add_commℚ}
-use Rattle.rational.proofs.Solve.{ring2, ring3, ring4, ring5, num, ◌⊕◌, ◌⊗◌}
+use Rattle.rational.proofs.Field.{zero_addℚ, zero_mulℚ, add_commℚ, ℚ_ring}
+use Rattle.rational.proofs.Ring.{law, num, ◌⊕◌, ◌⊗◌, ◌≐◌}
 use Rattle.exact_lin.specs.Forms.{Terms, LinearForm, AscendFrom, Covers, terms_at, form_at, is_zero, with_term, increased, increased_by, plus_constant, plus_term, plus_scaled}
 use Rattle.exact_lin.proofs.Zeros.{is_zero-zero, zero-is_zero}
 use Rattle.exact_lin.proofs.MergeTerms.{ranks_at}
@@ -58,29 +58,29 @@ terms_at-increased v c (t ∷ ts) x = go (nat_cmp t.0 v) refl (terms_at-increase
   where
     go : (o : Ordering) → nat_cmp t.0 v ≡ o → terms_at (increased ts v c) x ≡ terms_at ts x +ℚ c *ℚ x v
         → terms_at (match_ordering o (t ∷ increased ts v c) (with_term v (t.1 +ℚ c) ts) (with_term v c (t ∷ ts))) x ≡ (t.1 *ℚ x t.0 +ℚ terms_at ts x) +ℚ c *ℚ x v
-    go Less e ih = ap (λ (q : ℚ). t.1 *ℚ x t.0 +ℚ q) ih ∙ ring3 (t.1 *ℚ x t.0) (terms_at ts x) (c *ℚ x v) (λ a b d. a ⊕ (b ⊕ d)) (λ a b d. (a ⊕ b) ⊕ d) refl
+    go Less e ih = ap (λ (q : ℚ). t.1 *ℚ x t.0 +ℚ q) ih ∙ law ℚ_ring ((t.1 *ℚ x t.0) ∷ (terms_at ts x) ∷ (c *ℚ x v) ∷ []) (λ a b d. a ⊕ (b ⊕ d) ≐ (a ⊕ b) ⊕ d) refl
     go Equal e ih = let here : t.0 ≡ v = ranks_at t.0 v Equal e in
         terms_at-with_term v (t.1 +ℚ c) ts x
-        ∙ ring4 (terms_at ts x) t.1 c (x v) (λ a b d z. a ⊕ (b ⊕ d) ⊗ z) (λ a b d z. (b ⊗ z ⊕ a) ⊕ d ⊗ z) refl
+        ∙ law ℚ_ring ((terms_at ts x) ∷ t.1 ∷ c ∷ (x v) ∷ []) (λ a b d z. a ⊕ (b ⊕ d) ⊗ z ≐ (b ⊗ z ⊕ a) ⊕ d ⊗ z) refl
         ∙ ap (λ (n : ℕ). (t.1 *ℚ x n +ℚ terms_at ts x) +ℚ c *ℚ x v) (sym here)
     go Greater e ih = terms_at-with_term v c (t ∷ ts) x
 
 pub terms_at-increased_by : (y : ℚ) (us ts : Terms) (x : ℕ → ℚ) → terms_at (increased_by ts y us) x ≡ terms_at ts x +ℚ y *ℚ terms_at us x
-terms_at-increased_by y [] ts x = sym (ring2 (terms_at ts x) y (λ a b. a ⊕ b ⊗ num 0) (λ a b. a) refl)
+terms_at-increased_by y [] ts x = sym (law ℚ_ring ((terms_at ts x) ∷ y ∷ []) (λ a b. a ⊕ b ⊗ num 0 ≐ a) refl)
 terms_at-increased_by y (u ∷ us) ts x =
     terms_at-increased_by y us (increased ts u.0 (y *ℚ u.1)) x
     ∙ ap (λ (q : ℚ). q +ℚ y *ℚ terms_at us x) (terms_at-increased u.0 (y *ℚ u.1) ts x)
-    ∙ ring5 (terms_at ts x) y u.1 (x u.0) (terms_at us x) (λ a b c d e. (a ⊕ (b ⊗ c) ⊗ d) ⊕ b ⊗ e) (λ a b c d e. a ⊕ b ⊗ (c ⊗ d ⊕ e)) refl
+    ∙ law ℚ_ring ((terms_at ts x) ∷ y ∷ u.1 ∷ (x u.0) ∷ (terms_at us x) ∷ []) (λ a b c d e. (a ⊕ (b ⊗ c) ⊗ d) ⊕ b ⊗ e ≐ a ⊕ b ⊗ (c ⊗ d ⊕ e)) refl
 
 pub form_at-plus_term : (f : LinearForm) (v : ℕ) (c : ℚ) (x : ℕ → ℚ) → form_at (plus_term f v c) x ≡ form_at f x +ℚ c *ℚ x v
-form_at-plus_term f v c x = ap (λ (q : ℚ). f.constant +ℚ q) (terms_at-increased v c f.terms x) ∙ ring3 f.constant (terms_at f.terms x) (c *ℚ x v) (λ a b d. a ⊕ (b ⊕ d)) (λ a b d. (a ⊕ b) ⊕ d) refl
+form_at-plus_term f v c x = ap (λ (q : ℚ). f.constant +ℚ q) (terms_at-increased v c f.terms x) ∙ law ℚ_ring (f.constant ∷ (terms_at f.terms x) ∷ (c *ℚ x v) ∷ []) (λ a b d. a ⊕ (b ⊕ d) ≐ (a ⊕ b) ⊕ d) refl
 
 pub form_at-plus_scaled : (f : LinearForm) (y : ℚ) (g : LinearForm) (x : ℕ → ℚ) → form_at (plus_scaled f y g) x ≡ form_at f x +ℚ y *ℚ form_at g x
 form_at-plus_scaled f y g x = ap (λ (q : ℚ). (f.constant +ℚ y *ℚ g.constant) +ℚ q) (terms_at-increased_by y g.terms f.terms x)
-    ∙ ring5 f.constant y g.constant (terms_at f.terms x) (terms_at g.terms x) (λ a b c d e. (a ⊕ b ⊗ c) ⊕ (d ⊕ b ⊗ e)) (λ a b c d e. (a ⊕ d) ⊕ b ⊗ (c ⊕ e)) refl
+    ∙ law ℚ_ring (f.constant ∷ y ∷ g.constant ∷ (terms_at f.terms x) ∷ (terms_at g.terms x) ∷ []) (λ a b c d e. (a ⊕ b ⊗ c) ⊕ (d ⊕ b ⊗ e) ≐ (a ⊕ d) ⊕ b ⊗ (c ⊕ e)) refl
 
 pub form_at-plus_constant : (f : LinearForm) (c : ℚ) (x : ℕ → ℚ) → form_at (plus_constant f c) x ≡ form_at f x +ℚ c
-form_at-plus_constant f c x = ring3 f.constant c (terms_at f.terms x) (λ a b d. (a ⊕ b) ⊕ d) (λ a b d. (a ⊕ d) ⊕ b) refl
+form_at-plus_constant f c x = law ℚ_ring (f.constant ∷ c ∷ (terms_at f.terms x) ∷ []) (λ a b d. (a ⊕ b) ⊕ d ≐ (a ⊕ d) ⊕ b) refl
 
 -- ---- values for all ids
 
