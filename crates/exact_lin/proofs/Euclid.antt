@@ -1,9 +1,9 @@
 -- Euclid's steps keep the greatest common divisor.
-use Rattle.std.proofs.Common.{◌≡◌, ℕ, ◌%◌, ◌<◌, ◌≤◌, sym, ◌∙◌, ap, arith}
+use Rattle.std.proofs.Common.{◌≡◌, ℕ, ◌%◌, ◌<◌, ◌≤◌, sym, ◌∙◌, ap}
 use native.Mathlib.Nat.{le_of_dvd}
 use Rattle.std.proofs.lemmas.Nat.Gcd.{IsGcd-from_mod}
 use Rattle.rational.specs.Gcd.{gcd}
-use Rattle.rational.specs.Divisors.{gcd-is, gcd-from-is, gcd_pos}
+use Rattle.rational.specs.Divisors.{gcd-is, gcd-from-is}
 
 pub gcd-step : (a b : ℕ) → gcd b (a % b) ≡ gcd a b
 gcd-step a b = sym (gcd-from-is a b (gcd b (a % b)) (IsGcd-from_mod a b (gcd b (a % b)) (gcd-is b (a % b))))

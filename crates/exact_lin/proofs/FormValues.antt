@@ -1,5 +1,5 @@
 -- The value of a form, summed term by term.
-use Rattle.std.proofs.Common.{◌≡◌, ℕ, ◌<◌, sym, ◌∙◌, ap, ap₂, subst, List, [], ◌∷◌, length, map, get_or}
+use Rattle.std.proofs.Common.{◌≡◌, ℕ, ◌<◌, sym, ◌∙◌, ap, subst, List, [], ◌∷◌, length, map, get_or}
 use Rattle.std.proofs.lemmas.List.{get_or-map}
 use Rattle.rational.specs.Rational.{ℚ, zeroℚ, ◌+ℚ◌, ◌*ℚ◌}
 use Rattle.rational.proofs.Field.{add_assocℚ, add_commℚ, zero_addℚ}

@@ -10,3 +10,6 @@ pub mod FormValues
 pub mod Zeros
 pub mod Merge
 pub mod MergeTerms
+pub mod FormLaws
+pub mod Places
+pub mod Edits

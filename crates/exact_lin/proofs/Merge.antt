@@ -1,5 +1,5 @@
 -- Adding a multiple of terms to others, as a merge of the two lists; and that it is what adding them one by one gives.
-use Rattle.std.proofs.Common.{◌≡◌, ℕ, ◌+◌, ◌<◌, ◌≤◌, sym, ◌∙◌, ap, subst, refl, arith, List, [], ◌∷◌, ◌++◌, Less, Equal, Greater, Ordering, Bool, true, false, if◌then◌else◌}
+use Rattle.std.proofs.Common.{◌≡◌, ℕ, sym, ◌∙◌, ap, subst, refl, [], ◌∷◌, ◌++◌, Less, Equal, Greater, Ordering, Bool, true, false, if◌then◌else◌}
 use Rattle.std.proofs.Common.{append_assoc}
 use Rattle.std.specs.Prelude.{⊤}
 use Rattle.std.specs.Ordering.{nat_cmp, match_ordering, MatchOrdering}

@@ -1,19 +1,19 @@
 -- A merge gives what adding the terms one by one gives, and is defined where that is.
-use Rattle.std.proofs.Common.{◌≡◌, ℕ, ◌+◌, ◌<◌, ◌≤◌, sym, ◌∙◌, ap, subst, refl, arith, List, [], ◌∷◌, ◌++◌, Less, Equal, Greater, Ordering, Bool, true, false, nat_eq, if◌then◌else◌}
+use Rattle.std.proofs.Common.{◌≡◌, ℕ, ◌+◌, ◌<◌, ◌≤◌, sym, ◌∙◌, ap, subst, refl, arith, [], ◌∷◌, ◌++◌, Less, Equal, Greater, Ordering, Bool, true, false, nat_eq, if◌then◌else◌}
 use Rattle.std.specs.Ordering.{nat_cmp, match_ordering, MatchOrdering}
 use Rattle.std.specs.Cmp.{nat_cmp_is, ranks}
 use Rattle.std.proofs.lemmas.Bool.Decides.{nat_tests}
 use Rattle.rational.specs.Rational.{ℚ, zeroℚ, ◌+ℚ◌, ◌*ℚ◌}
-use Rattle.exact_lin.specs.Reckoning.{CanAdd, CanMultiply, Fits}
+use Rattle.exact_lin.specs.Reckoning.{CanAdd, Fits}
 use Rattle.exact_lin.specs.Forms.{Terms, AscendFrom, coefficient, is_zero, with_term, increased, increased_by, CanAddTerms}
 use Rattle.exact_lin.proofs.Merge.{absorb, merged, CanAbsorb, CanMerge, Merging, absorb-less}
 use Rattle.exact_lin.proofs.Results.{fits-product, CanAdd-zero}
 
-lt-less : (m n : ℕ) → m < n → nat_cmp m n ≡ Less
+pub lt-less : (m n : ℕ) → m < n → nat_cmp m n ≡ Less
 lt-less m n h = sym (nat_cmp_is m n Less h)
 
 -- what an answer of the comparison says
-ranks_at : (m n : ℕ) (o : Ordering) → nat_cmp m n ≡ o → MatchOrdering o (m < n) (m ≡ n) (n < m)
+pub ranks_at : (m n : ℕ) (o : Ordering) → nat_cmp m n ≡ o → MatchOrdering o (m < n) (m ≡ n) (n < m)
 ranks_at m n o e = subst (λ (p : Ordering). MatchOrdering p (m < n) (m ≡ n) (n < m)) e (ranks m n)
 
 -- ---- the terms

@@ -1,5 +1,5 @@
 -- What signs, negatives, reciprocals and whole numbers are in parts.
-use Rattle.std.proofs.Common.{◌≡◌, true, false, ◌≢◌, ℕ, zero, suc, ◌/◌, ◌<◌, ◌≤◌, ◌^◌, refl, sym, ◌∙◌, ap, ap₂, subst, arith, T, ltb, eqb, ◌&&◌, ℤ, pos, negsuc, ◌+ℤ◌, ◌-ℤ◌, ◌*ℤ◌, ◌<ℤ◌, ◌≤ℤ◌}
+use Rattle.std.proofs.Common.{◌≡◌, true, false, ◌≢◌, ℕ, zero, suc, ◌/◌, ◌<◌, ◌≤◌, ◌^◌, refl, sym, ◌∙◌, ap, ap₂, subst, arith, T, ltb, eqb, ◌&&◌, ℤ, pos, negsuc, ◌-ℤ◌, ◌*ℤ◌, ◌<ℤ◌, ◌≤ℤ◌}
 use Rattle.std.proofs.Math.IntN.{neg_ℤ, nat_abs}
 use Rattle.std.specs.Int.{IsGcd}
 use Rattle.std.proofs.lemmas.Int.{ints}
@@ -12,11 +12,10 @@ use lib.Signed.{lt_z}
 use borrow.Author.Differences.{product_is, lt_out, below_in}
 use Rattle.rational.specs.Gcd.{gcd}
 use Rattle.rational.specs.Lowest.{is_lowest, lowest_in, lowest_out, over, abs-over, divided-is_lowest}
-use Rattle.rational.specs.Divisors.{gcd-is, gcd_pos}
 use Rattle.rational.specs.Rational.{ℚ, ratio, whole, zeroℚ, neg_ℚ, inverse, reciprocal, ◌<ℚ◌}
 use Rattle.rational.proofs.Fractions.{den_pos, ratio-parts, equal_ratios}
 use Rattle.rational.proofs.Order.{lt-ratio_in, positive_in}
-use Rattle.exact_lin.specs.Reckoning.{wide_limit, IsFraction, Within, Fits}
+use Rattle.exact_lin.specs.Reckoning.{wide_limit, IsFraction, Within}
 use Rattle.exact_lin.proofs.Parts.{Made, made, back, back-is, back-unsigned, back-num, num-is, den-is}
 
 one_pos : 0 < 1

@@ -1,5 +1,5 @@
 -- The parts of a fraction as its number's parts, and the fractions that calls make.
-use Rattle.std.proofs.Common.{◌≡◌, ℕ, ◌<◌, ◌≤◌, ◌^◌, sym, ◌∙◌, ap, ap₂, subst, arith, T, Bool, ◌&&◌, int_eq, nat_eq}
+use Rattle.std.proofs.Common.{◌≡◌, ℕ, ◌≤◌, sym, ◌∙◌, ap, ap₂, subst, arith, Bool, ◌&&◌, int_eq, nat_eq}
 use Rattle.std.proofs.Math.IntN.{ℤ, pos, negsuc, ◌*ℤ◌, nat_abs}
 use Rattle.std.proofs.lemmas.Int.{ints}
 use Rattle.std.specs.Ordering.{int_cmp}
@@ -8,7 +8,7 @@ use native.Mathlib.Nat.{div-le_self}
 use mir.Val.{SFits, to_z, of_z}
 use mir.Syntax.{w128}
 use mir.Facts.{to_z-of_z}
-use Rattle.rational.specs.Lowest.{is_lowest, over, abs-over}
+use Rattle.rational.specs.Lowest.{over, abs-over}
 use Rattle.rational.specs.Rational.{ℚ, ratio, ◌+ℚ◌, ◌*ℚ◌, cmp_ℚ}
 use Rattle.rational.proofs.Fractions.{ratio-num, ratio-den}
 use Rattle.exact_lin.specs.Reckoning.{wide_limit, IsFraction, Within, SumFits, sum_numerator, sum_denominator, ProductFits, product_numerator, product_denominator, CanAdd, CanMultiply, both_terms, shared_factor}

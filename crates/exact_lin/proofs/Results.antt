@@ -5,7 +5,6 @@ use Rattle.std.proofs.lemmas.Int.{ints, by_lt_z}
 use native.Mathlib.Nat.{div-le_self, dvd_refl, one-dvd}
 use Rattle.rational.specs.Gcd.{gcd}
 use Rattle.rational.specs.Divisors.{gcd-from-is}
-use Rattle.rational.specs.Lowest.{over, abs-over, lowest_out}
 use Rattle.rational.specs.Rational.{ℚ, ratio, whole, zeroℚ, ◌+ℚ◌, ◌*ℚ◌, neg_ℚ, inverse}
 use Rattle.rational.proofs.Fractions.{ratio-num, ratio-den, den_pos}
 use Rattle.exact_lin.specs.Reckoning.{wide_limit, IsFraction, Fits, Within, SumFits, CanAdd, CanMultiply, sum_numerator, sum_denominator, product_numerator, product_denominator, both_terms, shared_factor}

@@ -2,9 +2,6 @@ use Rattle.std.proofs.Common.{◌≡◌, ℕ, ◌+◌, ◌*◌, ◌/◌, ◌%◌
 use Rattle.std.specs.Ordering.{nat_cmp, MatchOrdering}
 use Rattle.std.specs.Cmp.{nat_cmp_is, ranks}
 use native.Mathlib.Nat.{div-add-mod, mod-lt, mul-le-mul_left, mul-lt-mul_of_pos_right, mul_comm}
-use Rattle.std.proofs.lemmas.Nat.Gcd.{IsGcd-from_mod}
-use Rattle.rational.specs.Gcd.{gcd}
-use Rattle.rational.specs.Divisors.{gcd-is, gcd-from-is}
 
 same_rank : (o : Ordering) (x y u v : ℕ) → MatchOrdering o (x < y) (x ≡ y) (y < x) → (x < y → u < v) → (x ≡ y → u ≡ v) → (y < x → v < u) → MatchOrdering o (u < v) (u ≡ v) (v < u)
 same_rank Less x y u v m f g h = f m

@@ -1,11 +1,11 @@
 -- The test for 0.
 use Rattle.std.proofs.lemmas.Bool.Decides.{nat_tests}
 use Rattle.std.proofs.Math.IntN.{nat_abs}
-use Rattle.std.proofs.Common.{◌≡◌, ◌≢◌, ℕ, zero, suc, true, false, nat_eq, refl, sym, ◌∙◌, ap, subst, arith, ℤ, pos, negsuc}
-use Rattle.rational.specs.Rational.{ℚ, ratio, whole, zeroℚ, ◌<ℚ◌}
+use Rattle.std.proofs.Common.{◌≡◌, ◌≢◌, ℕ, zero, suc, true, false, nat_eq, refl, ◌∙◌, ap, subst, arith, ℤ, pos, negsuc}
+use Rattle.rational.specs.Rational.{ℚ, whole, zeroℚ, ◌<ℚ◌}
 use Rattle.rational.proofs.Fractions.{ratio-num}
 use Rattle.rational.proofs.Order.{lt_irreflℚ}
-use Rattle.exact_lin.specs.Reckoning.{Fits, wide_limit}
+use Rattle.exact_lin.specs.Reckoning.{wide_limit}
 use Rattle.exact_lin.specs.Forms.{is_zero}
 use Rattle.exact_lin.proofs.Numbers.{zero_num, whole-fraction}
 
@@ -34,3 +34,14 @@ lt-other q h e = lt_irreflℚ zeroℚ (subst (λ (r : ℚ). r <ℚ zeroℚ) e h)
 
 pub gt-other : (q : ℚ) → zeroℚ <ℚ q → q ≢ zeroℚ
 gt-other q h e = lt_irreflℚ zeroℚ (subst (λ (r : ℚ). zeroℚ <ℚ r) e h)
+
+pub zero-is_zero : (q : ℚ) → is_zero q ≡ true → q ≡ zeroℚ
+zero-is_zero q e = zero_num q (go q.num e)
+  where
+    not_zero : (m : ℕ) → nat_eq (suc m) 0 ≡ true → ⊥
+    not_zero m e = grind (arith, nat_tests)
+
+    go : (z : ℤ) → nat_eq (nat_abs z) 0 ≡ true → z ≡ pos 0
+    go (pos zero) e = refl
+    go (pos (suc m)) e = absurd (not_zero m e)
+    go (negsuc m) e = absurd (not_zero m e)

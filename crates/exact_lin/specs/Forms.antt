@@ -1,6 +1,5 @@
 -- Linear forms: a constant and terms. What they stand for, how they are reckoned, and where the reckoning is defined.
-use Rattle.std.specs.Prelude.{◌≡◌, ℕ, ◌+◌, ◌≤◌, ◌<◌, Bool, List, [], ◌∷◌, map, ⊤, nat_eq, if◌then◌else◌, slice_index_or, refl}
-use Rattle.std.specs.List.{fold}
+use Rattle.std.specs.Prelude.{◌≡◌, ℕ, ◌+◌, ◌≤◌, ◌<◌, Bool, List, [], ◌∷◌, ◌++◌, suc, length, take, drop, map, ⊤, nat_eq, if◌then◌else◌, slice_index_or, refl}
 use Rattle.std.specs.Ordering.{nat_cmp, match_ordering}
 use Rattle.std.specs.Coded.{Coded, code_by, coded×, coded_ℕ, coded_list}
 use lib.IntN.{nat_abs}
@@ -73,6 +72,11 @@ abbrev pub increased : Terms → ℕ → ℚ → Terms
 increased [] v c = with_term v c []
 increased (t ∷ ts) v c = match_ordering (nat_cmp t.0 v) (t ∷ increased ts v c) (with_term v (t.1 +ℚ c) ts) (with_term v c (t ∷ ts))
 
+-- how many terms, from the first on, have ids below n
+abbrev pub place_in : Terms → ℕ → ℕ
+place_in [] n = 0
+place_in (t ∷ ts) n = match_ordering (nat_cmp t.0 n) (suc (place_in ts n)) 0 0
+
 -- the form without terms
 abbrev pub constant_form : ℚ → LinearForm
 constant_form c = record { constant = c; terms = [] }
@@ -119,3 +123,17 @@ CanSumTerms limit sum (t ∷ ts) x = CanMultiply limit t.1 (x t.0) × CanAdd lim
 -- the value can be reckoned: from the constant on, term by term in the order of ids
 abbrev pub CanEvaluate : ℕ → LinearForm → (ℕ → ℚ) → Type 0
 CanEvaluate limit f x = CanSumTerms limit f.constant f.terms x
+
+-- ---- one term among others
+
+-- the id v has no term, and one for it would stand at the place
+pub record IsGap (ts : Terms) (v place : ℕ) : Type 0 where
+  pub bound : place ≤ length ts
+  pub nothing : coefficient ts v ≡ zeroℚ
+  pub increased_there : (c : ℚ) → increased ts v c ≡ take place ts ++ with_term v c (drop place ts)
+
+-- the term of the id v stands at the place and has the coefficient q
+pub record IsTerm (ts : Terms) (v place : ℕ) (q : ℚ) : Type 0 where
+  pub bound : place < length ts
+  pub found : coefficient ts v ≡ q
+  pub increased_there : (c : ℚ) → increased ts v c ≡ take place ts ++ with_term v (q +ℚ c) (drop (place + 1) ts)

@@ -1,5 +1,5 @@
 -- What each impl of `Id` shows of its laws.
-use Rattle.std.proofs.Common.{◌≡◌, ℕ, arith, nat_eq, subst}
+use Rattle.std.proofs.Common.{◌≡◌, ℕ, arith, nat_eq}
 use Rattle.std.specs.Prelude.{◌↔◌, IsTrue}
 use Rattle.std.proofs.lemmas.Bool.Decides.{nat_tests}
 

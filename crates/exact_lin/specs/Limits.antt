@@ -1,7 +1,7 @@
 -- What is defined under a limit is defined under a larger one, and results keep to the limit.
-use Rattle.std.proofs.Common.{◌≡◌, ℕ, ◌≤◌, ◌+◌, ◌*◌, ◌/◌, arith}
+use Rattle.std.proofs.Common.{ℕ, ◌≤◌, arith}
 use Rattle.rational.specs.Rational.{ℚ}
-use Rattle.exact_lin.specs.Reckoning.{Fits, Within, SumFits, ProductFits, CanAdd, CanMultiply, narrow_limit, wide_limit}
+use Rattle.exact_lin.specs.Reckoning.{CanAdd, CanMultiply, narrow_limit, wide_limit}
 
 pub CanAdd-larger : (limit larger : ℕ) → limit ≤ larger → (q r : ℚ) → CanAdd limit q r → CanAdd larger q r
 CanAdd-larger limit larger h q r f = record { left = omega (arith, f.left); right = omega (arith, f.right); both = omega (arith, f.both); denominator = omega (arith, f.denominator) }

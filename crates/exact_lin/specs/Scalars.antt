@@ -1,5 +1,5 @@
 -- What the two impls of `Scalar` show of their laws.
-use Rattle.std.proofs.Common.{◌≡◌, Bool, true, ◌&&◌, int_eq, nat_eq, ℤ, pos, ◌*ℤ◌, ℕ, ap₂, sym, subst, arith}
+use Rattle.std.proofs.Common.{◌≡◌, ◌&&◌, int_eq, nat_eq, ℤ, pos, ◌*ℤ◌, ℕ, ap₂, sym, subst, arith}
 use Rattle.std.specs.Prelude.{◌↔◌, IsTrue}
 use Rattle.std.proofs.lemmas.Bool.Decides.{nat_tests}
 use Rattle.rational.specs.Rational.{ℚ}

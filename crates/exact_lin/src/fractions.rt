@@ -1,6 +1,6 @@
 //! Fractions in lowest terms, with parts of 128 and of 64 bits.
 
-ghost use Rattle.std.specs.Prelude.{◌≡◌, ◌≢◌, ℕ, ◌<◌, ◌≤◌, ℤ, pos, ◌<ℤ◌, unsigned_abs};
+ghost use Rattle.std.specs.Prelude.{◌≡◌, ◌≢◌, ℕ, ◌<◌, ◌≤◌, ℤ, pos, ◌<ℤ◌, unsigned_abs, ◌↔◌, IsTrue};
 ghost use Rattle.std.specs.Option.{SomeIff};
 ghost use Rattle.std.specs.Result.{OkIff};
 ghost use Rattle.std.specs.Ordering.{MatchOrdering};
@@ -13,11 +13,11 @@ use crate::scalars::{Scalar, Sign, Wide};
 use std::cmp::Ordering;
 use std::marker::Model;
 
-/// The largest part of a [`Fraction`], 2^127 - 1.
-pub const WIDE_LIMIT: u128 = 170141183460469231731687303715884105727;
+// The largest part of a [`Fraction`], 2^127 - 1.
+const WIDE_LIMIT: u128 = 170141183460469231731687303715884105727;
 
-/// The largest part of a [`Narrow`], 2^63 - 1.
-pub const NARROW_LIMIT: u128 = 9223372036854775807;
+// The largest part of a [`Narrow`], 2^63 - 1.
+const NARROW_LIMIT: u128 = 9223372036854775807;
 
 /// An exact fraction in lowest terms. Its denominator is at least 1, and neither part is past 2^127 - 1.
 #[derive(Clone, Copy, Debug, PartialEq, Eq)]
@@ -194,11 +194,17 @@ impl Fraction {
     pub fn narrow(self) -> Option<Narrow>
         ensures { SomeIff result (Fits narrow_limit self) self }
     {
-        if self.num.unsigned_abs() <= NARROW_LIMIT && self.den <= NARROW_LIMIT {
+        if self.is_within(NARROW_LIMIT) {
             Some(self.narrowed())
         } else {
             None
         }
+    }
+
+    fn is_within(self, limit: u128) -> bool
+        ensures { IsTrue result ↔ Fits limit self }
+    {
+        self.num.unsigned_abs() <= limit && self.den <= limit
     }
 
     fn narrowed(self) -> Narrow

@@ -1,4 +1,4 @@
-use Rattle.std.proofs.Common.{ap, ◌∙◌, arith, pos}
+use Rattle.std.proofs.Common.{ap, ◌∙◌, pos}
 use Rattle.exact_lin.proofs.Parts.{den-is, back-unsigned}
 use Rattle.exact_lin.proofs.fractions.Fraction.den.Goals as goal
 

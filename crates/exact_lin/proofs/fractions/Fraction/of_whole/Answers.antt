@@ -1,8 +1,6 @@
-use Rattle.std.proofs.Common.{◌∙◌, ap, subst, sym, ℤ, ◌≡◌, to_z, of_z, w32, arith}
-use mir.Syntax.{w128}
+use Rattle.std.proofs.Common.{◌∙◌, ap, subst, sym, ℤ, arith}
 use Rattle.rational.specs.Rational.{ratio, whole}
-use Rattle.exact_lin.specs.Reckoning.{IsFraction, wide_limit, Within}
-use Rattle.exact_lin.proofs.Parts.{back, back-is}
+use Rattle.exact_lin.specs.Reckoning.{IsFraction, wide_limit}
 use Rattle.exact_lin.proofs.Numbers.{whole-fraction, small-within, small-back}
 use Rattle.exact_lin.proofs.fractions.Fraction.of_whole.Goals as goal
 

@@ -1,8 +1,8 @@
-use Rattle.std.proofs.Common.{ap, subst, length, map, sym, ◌∙◌}
+use Rattle.std.proofs.Common.{ap, subst, length, map}
 use Rattle.std.proofs.lemmas.List.{nil_from_length}
 use Rattle.exact_lin.specs.Forms.{shown, values_of, Terms}
 use Rattle.exact_lin.proofs.FormValues.{Summing, advance, point-value, ended}
-use Rattle.exact_lin.proofs.forms.sum_terms.Goals as goal
+use Rattle.exact_lin.proofs.terms.sum_terms.Goals as goal
 
 pub loop-term-preserved : goal.loop-term-preserved
 loop-term-preserved g c = let number = g.V.Id.number_of in let value = g.S.Scalar.value in let n = number c.in-Some.term.now.0 in

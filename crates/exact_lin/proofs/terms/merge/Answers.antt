@@ -1,10 +1,10 @@
-use Rattle.std.proofs.Common.{◌≡◌, ap, sym, ◌∙◌, Less, Equal, Greater, []}
+use Rattle.std.proofs.Common.{◌≡◌, ap, sym, ◌∙◌, Equal, Greater, []}
 use Rattle.std.specs.Ordering.{nat_cmp}
 use Rattle.std.proofs.lemmas.List.{nil_from_length, map-append}
 use Rattle.exact_lin.specs.Forms.{shown}
 use Rattle.exact_lin.proofs.Merge.{meets, makes, makes_last, wide_sum}
 use Rattle.exact_lin.proofs.MergeTerms.{needed-next, at_next, at_left, done-is, merged-defined, merged-terms}
-use Rattle.exact_lin.proofs.forms.merge.Goals as goal
+use Rattle.exact_lin.proofs.terms.merge.Goals as goal
 
 pub returns-in_err-mul-in-Equal-clause-wide : goal.returns-in_err-mul-in-Equal-clause-wide
 returns-in_err-mul-in-Equal-clause-wide g c = λ _ h. c.in_err-mul-in-Equal.ensures

@@ -1,6 +1,6 @@
 use Rattle.std.proofs.Common.{sym}
 use Rattle.exact_lin.proofs.Zeros.{is_zero-zero, is_zero-other, lt-other, gt-other}
-use Rattle.exact_lin.proofs.forms.is_zero_scalar.Goals as goal
+use Rattle.exact_lin.proofs.terms.is_zero_scalar.Goals as goal
 
 pub returns-in-Zero-clause-value : goal.returns-in-Zero-clause-value
 returns-in-Zero-clause-value g c = sym (is_zero-zero _ c.in-Zero.ensures.sign)

@@ -1,7 +1,7 @@
 use Rattle.std.proofs.Common.{◌+◌, length}
 use Rattle.exact_lin.specs.Forms.{shown}
 use Rattle.exact_lin.proofs.Merge.{Merging}
-use Rattle.exact_lin.proofs.forms.merge.Given as goal
+use Rattle.exact_lin.proofs.terms.merge.Given as goal
 
 abbrev pub invariant-loop-term : goal.invariant-loop-term
 invariant-loop-term g l = let number = g.V.Id.number_of in let value = g.S.Scalar.value in

@@ -1,7 +1,7 @@
 use Rattle.std.proofs.Common.{length, map}
 use Rattle.exact_lin.specs.Forms.{shown, values_of}
 use Rattle.exact_lin.proofs.FormValues.{Summing}
-use Rattle.exact_lin.proofs.forms.sum_terms.Given as goal
+use Rattle.exact_lin.proofs.terms.sum_terms.Given as goal
 
 abbrev pub invariant-loop-term : goal.invariant-loop-term
 invariant-loop-term g l = let number = g.V.Id.number_of in let value = g.S.Scalar.value in

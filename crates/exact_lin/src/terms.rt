@@ -1,0 +1,189 @@
+//! Terms of linear forms: ids with their coefficients, in the order of the ids.
+
+ghost use Rattle.std.specs.Prelude.{◌≡◌, ℕ, ◌+◌, ◌<◌, ◌≤◌, List, [], ◌∷◌, ◌++◌, length, map, take, drop, OnOk, IfOk, OnErr, IsErrOf, MatchOption};
+ghost use Rattle.rational.specs.Rational.{ℚ, ◌+ℚ◌};
+ghost use Rattle.exact_lin.specs.Reckoning.{CanAdd, Fits, Reckons};
+ghost use Rattle.exact_lin.specs.Forms.{shown, AscendFrom, Covers, terms_at, values_of, coefficient, is_zero, with_term, increased, increased_by, place_in, IsGap, IsTerm, CanAddTerms, CanSumTerms};
+
+use crate::faults::{FormFault, NoMemory};
+use crate::ids::Id;
+use crate::scalars::{Scalar, Sign, Wide};
+use std::alloc::Global;
+use std::cmp::Ordering;
+
+pub fn sum_terms<V: Id, S: Scalar>(start: S, terms: &[(V, S)], point: &[S]) -> Result<S, Wide>
+    requires { Covers (length point.now) (shown V.number_of S.value terms.now) }
+    ensures { Reckons S.value result (CanSumTerms S.limit (S.value start) (shown V.number_of S.value terms.now) (values_of (map S.value point.now))) (S.value start +ℚ terms_at (shown V.number_of S.value terms.now) (values_of (map S.value point.now))) }
+{
+    let mut sum = start;
+    let mut left = terms;
+    while let Some((term, later)) = left.split_first() {
+        sum = sum.add(term.1.mul(point[term.0.number() as usize])?)?;
+        left = later;
+    }
+    Ok(sum)
+}
+
+fn is_zero_scalar<S: Scalar>(c: S) -> bool
+    ensures value { result ≡ is_zero (S.value c) }
+    ensures fits { Fits S.limit (S.value c) }
+{
+    match c.sign() {
+        Sign::Zero => true,
+        Sign::Minus => false,
+        Sign::Plus => false,
+    }
+}
+
+// Puts a term at the end, unless its coefficient is 0.
+fn push_term<V: Id, S: Scalar>(terms: &mut Vec<(V, S)>, id: V, c: S) -> Result<(), NoMemory>
+    ensures { OnOk result (shown V.number_of S.value terms.new.items ≡ shown V.number_of S.value terms.old.items ++ with_term (V.number_of id) (S.value c) []) }
+{
+    if !is_zero_scalar(c) {
+        terms.push((id, c))?;
+    }
+    Ok(())
+}
+
+// The terms of one form with a multiple of those of another added, both in the order of their ids.
+pub fn merge<V: Id, S: Scalar>(
+    alloc: Global,
+    one: &[(V, S)],
+    by: S,
+    other: &[(V, S)],
+) -> Result<Vec<(V, S)>, FormFault>
+    requires one { AscendFrom 0 (shown V.number_of S.value one.now) }
+    requires other { AscendFrom 0 (shown V.number_of S.value other.now) }
+    ensures defined { OnOk result (CanAddTerms S.limit (shown V.number_of S.value one.now) (S.value by) (shown V.number_of S.value other.now)) }
+    ensures terms { IfOk result (λ terms. shown V.number_of S.value terms.items ≡ increased_by (shown V.number_of S.value one.now) (S.value by) (shown V.number_of S.value other.now)) }
+    ensures wide { IsErrOf result FormFault.Wide → ¬ (CanAddTerms S.limit (shown V.number_of S.value one.now) (S.value by) (shown V.number_of S.value other.now)) }
+{
+    let mut sum = Vec::new(alloc);
+    let mut left = one;
+    let mut right = other;
+    while let Some((term, later)) = right.split_first() {
+        match left.split_first() {
+            Some((first, rest)) => match first.0.number().cmp(&term.0.number()) {
+                Ordering::Less => {
+                    push(&mut sum, *first)?;
+                    left = rest;
+                }
+                Ordering::Equal => {
+                    push_term(&mut sum, term.0, first.1.add(by.mul(term.1)?)?)?;
+                    left = rest;
+                    right = later;
+                }
+                Ordering::Greater => {
+                    push_term(&mut sum, term.0, by.mul(term.1)?)?;
+                    right = later;
+                }
+            },
+            None => {
+                push_term(&mut sum, term.0, by.mul(term.1)?)?;
+                right = later;
+            }
+        }
+    }
+    match sum.extend_from_slice(left) {
+        Ok(()) => Ok(sum),
+        Err(_) => Err(FormFault::Memory),
+    }
+}
+
+// How many terms, from the first on, have ids below this number.
+fn place_of<V: Id, S: Scalar>(terms: &[(V, S)], number: u32) -> usize
+    requires { AscendFrom 0 (shown V.number_of S.value terms.now) }
+    ensures { result ≡ place_in (shown V.number_of S.value terms.now) number }
+{
+    // Terms mostly come in the order of their ids.
+    if let Some((last, _)) = terms.split_last() {
+        if last.0.number() < number {
+            return terms.len();
+        }
+    }
+    let mut left = terms;
+    while let Some((first, rest)) = left.split_first() {
+        if first.0.number() >= number {
+            break;
+        }
+        left = rest;
+    }
+    terms.len() - left.len()
+}
+
+// Adds to the term of an id, or makes or removes it.
+pub fn add_to_terms<V: Id, S: Scalar>(terms: &mut Vec<(V, S)>, v: V, c: S) -> Result<(), FormFault>
+    requires { AscendFrom 0 (shown V.number_of S.value terms.old.items) }
+    ensures defined { OnOk result (CanAdd S.limit (coefficient (shown V.number_of S.value terms.old.items) (V.number_of v)) (S.value c)) }
+    ensures terms { OnOk result (shown V.number_of S.value terms.new.items ≡ increased (shown V.number_of S.value terms.old.items) (V.number_of v) (S.value c)) }
+    ensures wide { IsErrOf result FormFault.Wide → ¬ (CanAdd S.limit (coefficient (shown V.number_of S.value terms.old.items) (V.number_of v)) (S.value c)) }
+    ensures err { OnErr result (terms.new.items ≡ terms.old.items) }
+{
+    let place = place_of(terms.as_slice(), v.number());
+    match coefficient_at(terms.as_slice(), v, place) {
+        Some(old) => {
+            let sum = old.add(c)?;
+            set_term(terms, place, v, sum);
+            Ok(())
+        }
+        None => insert_term(terms, place, v, c),
+    }
+}
+
+// The coefficient of an id, if it has a term at its place.
+fn coefficient_at<V: Id, S: Scalar>(terms: &[(V, S)], v: V, place: usize) -> Option<S>
+    requires terms { AscendFrom 0 (shown V.number_of S.value terms.now) }
+    requires place { place ≡ place_in (shown V.number_of S.value terms.now) (V.number_of v) }
+    ensures { MatchOption result (IsGap (shown V.number_of S.value terms.now) (V.number_of v) place) (λ old. IsTerm (shown V.number_of S.value terms.now) (V.number_of v) place (S.value old)) }
+{
+    if place >= terms.len() {
+        return None;
+    }
+    let term = terms[place];
+    if term.0.number() == v.number() {
+        Some(term.1)
+    } else {
+        None
+    }
+}
+
+// Gives the term at a place a new coefficient, or removes it where that is 0.
+fn set_term<V: Id, S: Scalar>(terms: &mut Vec<(V, S)>, place: usize, v: V, c: S)
+    requires { place < length terms.old.items }
+    ensures { shown V.number_of S.value terms.new.items ≡ take place (shown V.number_of S.value terms.old.items) ++ with_term (V.number_of v) (S.value c) (drop (place + 1) (shown V.number_of S.value terms.old.items)) }
+{
+    if is_zero_scalar(c) {
+        terms.remove(place);
+    } else {
+        terms[place] = (v, c);
+    }
+}
+
+// Puts a term at a place, unless its coefficient is 0.
+fn insert_term<V: Id, S: Scalar>(
+    terms: &mut Vec<(V, S)>,
+    place: usize,
+    v: V,
+    c: S,
+) -> Result<(), FormFault>
+    requires { place ≤ length terms.old.items }
+    ensures terms { OnOk result (shown V.number_of S.value terms.new.items ≡ take place (shown V.number_of S.value terms.old.items) ++ with_term (V.number_of v) (S.value c) (drop place (shown V.number_of S.value terms.old.items))) }
+    ensures fits { Fits S.limit (S.value c) }
+    ensures memory { OnErr result (IsErrOf result FormFault.Memory) }
+    ensures err { OnErr result (terms.new.items ≡ terms.old.items) }
+{
+    if is_zero_scalar(c) {
+        return Ok(());
+    }
+    match terms.insert(place, (v, c)) {
+        Ok(()) => Ok(()),
+        Err(_) => Err(FormFault::Memory),
+    }
+}
+
+fn push<T: Copy + Drop>(items: &mut Vec<T>, item: T) -> Result<(), NoMemory>
+    ensures { OnOk result (items.new.items ≡ items.old.items ++ item ∷ []) }
+{
+    items.push(item)?;
+    Ok(())
+}
