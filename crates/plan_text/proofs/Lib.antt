@@ -1,0 +1,5 @@
+pub mod Printing
+pub mod Spelling
+pub mod DigitNumbers
+pub mod Comparing
+pub mod Searching
