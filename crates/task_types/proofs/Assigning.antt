@@ -148,10 +148,10 @@ at_read p d (x ∷ xs) zero h = h
 at_read p d (x ∷ xs) (suc k) h = at_read p d xs k h
 
 fits_distinct : (task : TaskParts) (s : Snap) → snap_fits task s ≡ true → are_distinct (assigned_fluents s) ≡ true
-fits_distinct task s h = and_right _ _ (and_left _ _ (and_left _ _ (and_left _ _ h)))
+fits_distinct task s h = and_right _ _ (and_left _ _ (and_left _ _ (and_left _ _ (and_left _ _ h))))
 
 fits_timed : (task : TaskParts) (s : Snap) → snap_fits task s ≡ true → is_timed s.kind ≡ true → is_empty s.effect.assigns ≡ true
-fits_timed task s h k = go (is_timed s.kind) k (and_right _ _ h)
+fits_timed task s h k = go (is_timed s.kind) k (and_right _ _ (and_left _ _ h))
   where
     go : (b : Bool) → b ≡ true → (not b || changes_facts_alone s) ≡ true → is_empty s.effect.assigns ≡ true
     go true e l = and_right _ _ (and_left _ _ l)

@@ -17,6 +17,15 @@ pub mod Truths
 pub mod Sayings
 pub mod Values
 pub mod ExampleTasks
+pub mod Shown
+pub mod LeadingBack
+pub mod FormulaFacts
+pub mod Places
+pub mod RelatedBelow
+pub mod Found
+pub mod LastEntries
+pub mod TouchRows
+pub mod FewTokens
 pub mod Duties
 pub mod Verdicts
 pub mod Sorting

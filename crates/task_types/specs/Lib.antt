@@ -14,3 +14,4 @@ pub mod Reckoned
 pub mod Laws
 pub mod WellMade
 pub mod Examples
+pub mod Related

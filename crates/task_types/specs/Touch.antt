@@ -52,12 +52,17 @@ soft_fluents (soft.Goal formula forms w) = flat_map form_fluents forms
 soft_fluents (soft.Late formula c w) = []
 soft_fluents (soft.Pieces formula ps w) = []
 
+-- the fluents that the condition and the effect expressions of a snap action read, and those that it assigns
+abbrev pub snap_tracked : Snap → List ℕ
+snap_tracked s = condition_fluents s.condition ++ flat_map (λ e. form_fluents e.1.form) (s.effect.assigns ++ s.effect.increases) ++ assigned_fluents s
+
+-- the fluents that the over-all condition and the duration bounds of an action read
+abbrev pub action_tracked : Action → List ℕ
+action_tracked a = condition_fluents a.over_all ++ flat_map (λ b. form_fluents b.form) a.bounds
+
 -- A fluent is tracked where a condition, an effect expression, a duration bound, the goal or a preference reads it, or an effect assigns it; any other fluent is a meter, which nothing but the cost reads.
 abbrev pub tracked_fluents : TaskParts → List ℕ
-tracked_fluents task = flat_map (λ s. condition_fluents s.condition ++ flat_map (λ e. form_fluents e.1.form) (s.effect.assigns ++ s.effect.increases) ++ assigned_fluents s) task.snaps
-    ++ flat_map (λ a. condition_fluents a.over_all ++ flat_map (λ b. form_fluents b.form) a.bounds) task.actions
-    ++ condition_fluents task.goal
-    ++ flat_map soft_fluents task.soft
+tracked_fluents task = flat_map snap_tracked task.snaps ++ flat_map action_tracked task.actions ++ condition_fluents task.goal ++ flat_map soft_fluents task.soft
 
 -- A step looks at what its condition, effect expressions and duration bounds read, and at the facts, fluents and groups of the over-all condition of its action.
 abbrev pub looks : TaskParts → Snap → Token → Bool
@@ -114,7 +119,7 @@ tokens task = map token.Fact (numbers (length task.facts))
     ++ map token.Fluent (filter (λ f. is_in f (tracked_fluents task)) (numbers (length task.fluents)))
     ++ flat_map (λ a. comparison_tokens a.0 a.1) (enumerate_from 0 task.actions)
     ++ map token.Formulas (filter are_several (map trail_facts task.hard ++ map soft_facts task.soft))
-    ++ map token.Action (filter (λ a. is_some (action_of task a).end) (numbers (length task.actions)))
+    ++ map (λ a. token.Action a.0) (filter (λ a. is_some a.1.end) (enumerate_from 0 task.actions))
 
 -- the touches of a snap action on one token
 abbrev pub touches_on : TaskParts → Snap → ℕ → Token → List (ℕ × Touch)

@@ -76,13 +76,18 @@ is_start End = false
 is_start Instant = false
 is_start Timed = false
 
--- A snap action fits where its parts do, it assigns no fluent twice, it has rates only as a start, and it changes facts alone where it is timed.
+abbrev pub is_action : TaskParts → Option ℕ → Bool
+is_action task None = true
+is_action task (Some a) = nat_lt a (length task.actions)
+
+-- A snap action fits where its parts do, it assigns no fluent twice, it has rates only as a start, it changes facts alone where it is timed, and its action is one of the task.
 abbrev pub snap_fits : TaskParts → Snap → Bool
 snap_fits task s = condition_fits task s.condition && effect_fits task s.kind s.effect
     && are_distinct (assigned_fluents s)
     && are_below (length task.fluents) (map (λ r. r.0) s.rates)
     && (is_start s.kind || is_empty s.rates)
     && (not (is_timed s.kind) || changes_facts_alone s)
+    && is_action task s.action
 
 -- the most comparisons of an over-all condition
 abbrev pub watch_limit : ℕ

@@ -12,7 +12,7 @@ pub enum Token {
 }
 
 /// How a step touches a token: it reads it, changes it at its moment, or changes its rate.
-#[derive(Clone, Copy, Drop)]
+#[derive(Clone, Copy, Debug, Drop, PartialEq, Eq)]
 pub enum Touch {
     Look,
     Mark,
