@@ -3,3 +3,4 @@ pub mod Validity
 pub mod Course
 pub mod Laws
 pub mod Grammar
+pub mod Domain

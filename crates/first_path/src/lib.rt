@@ -2,6 +2,7 @@
 //! that decides it exactly.
 #![tactic(auto)]
 
+mod domain;
 mod grammar;
 mod laws;
 mod model;

@@ -1,0 +1,140 @@
+//! The domain of the small grammar: one function, one durative action.
+
+ghost use Rattle.std.specs.Prelude.{◌≡◌, ◌++◌, ◌∷◌, [], length, IfOk, OnOk, MatchOption, replicate};
+ghost use Rattle.sexpr_text.specs.Forms.{LieWithin};
+ghost use Rattle.first_path.specs.Grammar.{Fits, leaves};
+ghost use Rattle.first_path.specs.Domain.{domain_parts, requirement_parts, parameter_parts, action_parts, duration_parts, condition_parts, effect_parts};
+
+use crate::grammar::{Part, Word, fits, leaves};
+use sexpr_text::{Token, TokenKind};
+use std::alloc::{AllocError, Global};
+
+const OPEN: Part = Part::Fixed(Word::Open);
+
+const CLOSE: Part = Part::Fixed(Word::Close);
+
+const NAME: Part = Part::Leaf(TokenKind::Name);
+
+const MARK: Part = Part::Leaf(TokenKind::Mark);
+
+const NUMBER: Part = Part::Leaf(TokenKind::Number);
+
+fn push_requirements(
+    alloc: Global,
+    parts: &mut Vec<Part>,
+    flags: Option<usize>,
+) -> Result<(), AllocError>
+    ensures { OnOk result (parts.new.items ≡ parts.old.items ++ requirement_parts flags) }
+{
+    if let Some(flags) = flags {
+        let flags = vec![in alloc; Part::Flag; flags]?;
+        parts.extend_from_slice(&[OPEN, Part::Fixed(Word::Requirements)])?;
+        parts.extend_from_slice(&flags)?;
+        parts.push(CLOSE)?;
+    }
+    Ok(())
+}
+
+fn push_parameters(parts: &mut Vec<Part>, has_parameters: bool) -> Result<(), AllocError>
+    ensures { OnOk result (parts.new.items ≡ parts.old.items ++ parameter_parts has_parameters) }
+{
+    if has_parameters {
+        parts.extend_from_slice(&[Part::Fixed(Word::Parameters), OPEN, CLOSE])?;
+    }
+    Ok(())
+}
+
+fn push_action(parts: &mut Vec<Part>) -> Result<(), AllocError>
+    ensures { OnOk result (parts.new.items ≡ parts.old.items ++ action_parts) }
+{
+    parts.extend_from_slice(&[
+        OPEN,
+        Part::Fixed(Word::Functions),
+        OPEN,
+        NAME,
+        CLOSE,
+        CLOSE,
+        OPEN,
+        Part::Fixed(Word::DurativeAction),
+        NAME,
+    ])
+}
+
+fn push_duration(parts: &mut Vec<Part>) -> Result<(), AllocError>
+    ensures { OnOk result (parts.new.items ≡ parts.old.items ++ duration_parts) }
+{
+    parts.extend_from_slice(&[
+        Part::Fixed(Word::Duration),
+        OPEN,
+        Part::Fixed(Word::Equal),
+        Part::Fixed(Word::DurationVariable),
+        NUMBER,
+        CLOSE,
+    ])
+}
+
+fn push_condition(parts: &mut Vec<Part>) -> Result<(), AllocError>
+    ensures { OnOk result (parts.new.items ≡ parts.old.items ++ condition_parts) }
+{
+    parts.extend_from_slice(&[
+        Part::Fixed(Word::Condition),
+        OPEN,
+        Part::Fixed(Word::Over),
+        Part::Fixed(Word::All),
+        OPEN,
+        MARK,
+        OPEN,
+        NAME,
+        CLOSE,
+        NUMBER,
+        CLOSE,
+        CLOSE,
+    ])
+}
+
+fn push_effect(parts: &mut Vec<Part>) -> Result<(), AllocError>
+    ensures { OnOk result (parts.new.items ≡ parts.old.items ++ effect_parts) }
+{
+    parts.extend_from_slice(&[
+        Part::Fixed(Word::Effect),
+        OPEN,
+        NAME,
+        OPEN,
+        NAME,
+        CLOSE,
+        OPEN,
+        Part::Fixed(Word::Times),
+        Part::Fixed(Word::Now),
+        NUMBER,
+        CLOSE,
+        CLOSE,
+        CLOSE,
+        CLOSE,
+    ])
+}
+
+/// The parts of a domain with this many flags, and with or without parameters.
+fn domain_parts(
+    alloc: Global,
+    flags: Option<usize>,
+    has_parameters: bool,
+) -> Result<Vec<Part>, AllocError>
+    ensures { IfOk result (λ parts. parts.items ≡ domain_parts flags has_parameters) }
+{
+    let mut parts = Vec::new(alloc);
+    parts.extend_from_slice(&[
+        OPEN,
+        Part::Fixed(Word::Define),
+        OPEN,
+        Part::Fixed(Word::Domain),
+        NAME,
+        CLOSE,
+    ])?;
+    push_requirements(alloc, &mut parts, flags)?;
+    push_action(&mut parts)?;
+    push_parameters(&mut parts, has_parameters)?;
+    push_duration(&mut parts)?;
+    push_condition(&mut parts)?;
+    push_effect(&mut parts)?;
+    Ok(parts)
+}
