@@ -1,9 +1,9 @@
 //! The domain of the small grammar: one function, one durative action.
 
-ghost use Rattle.std.specs.Prelude.{◌≡◌, ◌++◌, ◌∷◌, [], length, IfOk, OnOk, MatchOption, replicate};
+ghost use Rattle.std.specs.Prelude.{◌≡◌, ◌++◌, ◌∷◌, [], length, IfOk, OnOk, MatchOption, ℕ, Option};
 ghost use Rattle.sexpr_text.specs.Forms.{LieWithin};
 ghost use Rattle.first_path.specs.Grammar.{Fits, leaves};
-ghost use Rattle.first_path.specs.Domain.{domain_parts, requirement_parts, parameter_parts, action_parts, duration_parts, condition_parts, effect_parts};
+ghost use Rattle.first_path.specs.Domain.{domain_parts, requirement_parts, parameter_parts, action_parts, duration_parts, condition_parts, effect_parts, part_count, FitsNoDomain, FitsDomain};
 
 use crate::grammar::{Part, Word, fits, leaves};
 use sexpr_text::{Token, TokenKind};
@@ -137,4 +137,40 @@ fn domain_parts(
     push_condition(&mut parts)?;
     push_effect(&mut parts)?;
     Ok(parts)
+}
+
+/// How many flags a domain of so many tokens has.
+fn flag_count(count: usize, has_parameters: bool) -> Option<Option<usize>>
+    ensures { MatchOption result ((flags : Option ℕ) → ¬ (part_count flags has_parameters ≡ count)) (λ flags. part_count flags has_parameters ≡ count) }
+{
+    let fixed = if has_parameters { 50 } else { 47 };
+    if count < fixed {
+        return None;
+    }
+    match count - fixed {
+        0 => Some(None),
+        1 | 2 => None,
+        more => Some(Some(more - 3)),
+    }
+}
+
+/// The leaves of a domain with or without parameters.
+fn leaves_with(
+    alloc: Global,
+    text: &[u8],
+    tokens: &[Token],
+    has_parameters: bool,
+) -> Result<Option<Vec<Token>>, AllocError>
+    requires { LieWithin text.now tokens.now }
+    ensures { IfOk result (λ found. MatchOption found (FitsNoDomain text.now tokens.now has_parameters) (λ found. FitsDomain text.now tokens.now has_parameters found.items)) }
+{
+    let Some(flags) = flag_count(tokens.len(), has_parameters) else {
+        return Ok(None);
+    };
+    let parts = domain_parts(alloc, flags, has_parameters)?;
+    if !fits(text, tokens, &parts) {
+        return Ok(None);
+    }
+    let found = leaves(alloc, tokens, &parts)?;
+    Ok(Some(found))
 }
