@@ -1,4 +1,5 @@
 pub mod Bounds
+pub mod Decimals
 pub mod DomainParts
 pub mod Fitting
 pub mod Segments

@@ -4,3 +4,4 @@ pub mod Course
 pub mod Laws
 pub mod Grammar
 pub mod Domain
+pub mod Decimal

@@ -2,6 +2,7 @@
 //! that decides it exactly.
 #![tactic(auto)]
 
+mod decimal;
 mod domain;
 mod grammar;
 mod laws;
