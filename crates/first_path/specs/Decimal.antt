@@ -35,8 +35,11 @@ pub record IsUnsigned (run : List ℕ) : Type 0 where
   pub few : length (whole_part run) + length (fraction_part run) ≤ 18
 
 -- the digits as one whole number, over a ten for each digit behind the point
+abbrev pub digits_value : List ℕ → List ℕ → ℚ
+digits_value whole fraction = ratio (pos (number_from whole * 10 ^ length fraction + number_from fraction)) (10 ^ length fraction)
+
 abbrev pub unsigned_value : List ℕ → ℚ
-unsigned_value run = ratio (pos (number_from (whole_part run) * 10 ^ length (fraction_part run) + number_from (fraction_part run))) (10 ^ length (fraction_part run))
+unsigned_value run = digits_value (whole_part run) (fraction_part run)
 
 -- such a number, perhaps behind a minus
 abbrev pub IsDecimal : List ℕ → Type 0
