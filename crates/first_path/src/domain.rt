@@ -1,6 +1,6 @@
 //! The domain of the small grammar: one function, one durative action.
 
-ghost use Rattle.std.specs.Prelude.{◌≡◌, ◌++◌, ◌∷◌, [], length, IfOk, OnOk, MatchOption, ℕ, Option};
+ghost use Rattle.std.specs.Prelude.{◌≡◌, Bool, ◌++◌, ◌∷◌, [], length, IfOk, OnOk, IfSome, MatchOption, ℕ, Option};
 ghost use Rattle.sexpr_text.specs.Forms.{LieWithin};
 ghost use Rattle.first_path.specs.Grammar.{Fits, leaves};
 ghost use Rattle.first_path.specs.Domain.{domain_parts, requirement_parts, parameter_parts, action_parts, duration_parts, condition_parts, effect_parts, part_count, FitsNoDomain, FitsDomain};
@@ -162,7 +162,8 @@ fn leaves_with(
     has_parameters: bool,
 ) -> Result<Option<Vec<Token>>, AllocError>
     requires { LieWithin text.now tokens.now }
-    ensures { IfOk result (λ found. MatchOption found (FitsNoDomain text.now tokens.now has_parameters) (λ found. FitsDomain text.now tokens.now has_parameters found.items)) }
+    ensures within { IfOk result (λ found. IfSome found (λ found. LieWithin text.now found.items)) }
+    ensures fits { IfOk result (λ found. MatchOption found (FitsNoDomain text.now tokens.now has_parameters) (λ found. FitsDomain text.now tokens.now has_parameters found.items)) }
 {
     let Some(flags) = flag_count(tokens.len(), has_parameters) else {
         return Ok(None);
@@ -173,4 +174,20 @@ fn leaves_with(
     }
     let found = leaves(alloc, tokens, &parts)?;
     Ok(Some(found))
+}
+
+/// The leaves of a domain.
+fn domain_leaves(
+    alloc: Global,
+    text: &[u8],
+    tokens: &[Token],
+) -> Result<Option<Vec<Token>>, AllocError>
+    requires { LieWithin text.now tokens.now }
+    ensures within { IfOk result (λ found. IfSome found (λ found. LieWithin text.now found.items)) }
+    ensures fits { IfOk result (λ found. MatchOption found ((b : Bool) → FitsNoDomain text.now tokens.now b) (λ found. (b : Bool) × FitsDomain text.now tokens.now b found.items)) }
+{
+    if let Some(found) = leaves_with(alloc, text, tokens, false)? {
+        return Ok(Some(found));
+    }
+    leaves_with(alloc, text, tokens, true)
 }
