@@ -2,7 +2,6 @@ pub mod Bounds
 pub mod Decimals
 pub mod DomainParts
 pub mod Fitting
-pub mod Leaves
 pub mod Segments
 pub mod States
 pub mod Verdicts

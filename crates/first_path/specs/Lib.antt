@@ -5,3 +5,4 @@ pub mod Laws
 pub mod Grammar
 pub mod Domain
 pub mod Decimal
+pub mod Leaves

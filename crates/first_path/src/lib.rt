@@ -4,6 +4,7 @@
 
 mod decimal;
 mod domain;
+mod domains;
 mod grammar;
 mod laws;
 mod model;
