@@ -1,10 +1,10 @@
 -- The leaves of a domain, place by place.
-use Rattle.std.proofs.Common.{◌≡◌, ℕ, suc, ◌+◌, ◌<◌, ◌≤◌, List, [], ◌∷◌, length, slice_index_or, refl, sym, ◌∙◌, ap, subst, arith, Some}
+use Rattle.std.proofs.Common.{◌≡◌, ℕ, ◌<◌, ◌≤◌, List, [], ◌∷◌, length, slice_index_or, sym, ◌∙◌, ap, subst, arith, Some}
 use Rattle.sexpr_text.specs.declared.token.Token.{Token}
 use Rattle.first_path.specs.declared.domains.Domain.{Domain}
 use Rattle.first_path.specs.declared.domains.Motion.{Motion}
 use Rattle.first_path.specs.Grammar.{bytes_of}
-use Rattle.first_path.specs.Leaves.{SpellsDomain, SpellsMotion, SpellsNumber, SpellsBound, AreFluents, LeavesSpellDomain, IsNamed, direction_named}
+use Rattle.first_path.specs.Leaves.{SpellsDomain, SpellsMotion, SpellsNumber, SpellsBound, AreFluents, LeavesSpellDomain, IsNamed}
 
 -- the leaves of a domain are ten
 pub spelled-out : (text : List ℕ) (leaves : List Token) (e : Token) (d : Domain) → LeavesSpellDomain text leaves d

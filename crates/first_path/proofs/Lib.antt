@@ -1,6 +1,7 @@
 pub mod Bounds
 pub mod Decimals
 pub mod DomainParts
+pub mod DomainReading
 pub mod DomainLeaves
 pub mod Fitting
 pub mod Segments

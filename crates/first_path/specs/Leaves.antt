@@ -1,5 +1,5 @@
 -- What tokens at leaves say.
-use Rattle.std.specs.Prelude.{◌≡◌, ℕ, ◌<◌, ◌≤◌, IsTrue, length, Bool, true, false, ◌||◌, if◌then◌else◌, List, [], ◌∷◌, Option, Some, None}
+use Rattle.std.specs.Prelude.{◌≡◌, ℕ, ◌<◌, ◌≤◌, IsTrue, length, Bool, false, ◌||◌, if◌then◌else◌, List, [], ◌∷◌, Option, Some, None}
 use lib.Chars.{codes}
 use Rattle.rational.specs.Rational.{ℚ}
 use Rattle.sexpr_text.specs.declared.token.Token.{Token}

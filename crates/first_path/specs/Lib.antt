@@ -6,3 +6,4 @@ pub mod Grammar
 pub mod Domain
 pub mod Decimal
 pub mod Leaves
+pub mod DomainText

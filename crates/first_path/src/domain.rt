@@ -1,12 +1,15 @@
 //! The domain of the small grammar: one function, one durative action.
 
-ghost use Rattle.std.specs.Prelude.{◌≡◌, Bool, ◌++◌, ◌∷◌, [], length, IfOk, OnOk, IfSome, MatchOption, ℕ, Option};
+ghost use Rattle.std.specs.Prelude.{◌≡◌, ◌<◌, ◌^◌, Bool, ◌++◌, ◌∷◌, [], length, IfOk, OnOk, IfSome, MatchOption, ℕ, Option};
 ghost use Rattle.sexpr_text.specs.Forms.{LieWithin};
 ghost use Rattle.first_path.specs.Grammar.{Fits, leaves};
+ghost use Rattle.first_path.specs.declared.domains.Domain.{Domain};
+ghost use Rattle.first_path.specs.DomainText.{SpellsWith, IsDomain};
 ghost use Rattle.first_path.specs.Domain.{domain_parts, requirement_parts, parameter_parts, action_parts, duration_parts, condition_parts, effect_parts, part_count, FitsNoDomain, FitsDomain};
 
+use crate::domains::{Domain, domain_of};
 use crate::grammar::{Part, Word, fits, leaves};
-use sexpr_text::{Token, TokenKind};
+use sexpr_text::{LexFault, Token, TokenKind, read_forms};
 use std::alloc::{AllocError, Global};
 
 const OPEN: Part = Part::Fixed(Word::Open);
@@ -176,18 +179,41 @@ fn leaves_with(
     Ok(Some(found))
 }
 
-/// The leaves of a domain.
-fn domain_leaves(
+/// The domain of these tokens with or without parameters.
+fn domain_with(
     alloc: Global,
     text: &[u8],
     tokens: &[Token],
-) -> Result<Option<Vec<Token>>, AllocError>
+    has_parameters: bool,
+) -> Result<Option<Domain>, AllocError>
     requires { LieWithin text.now tokens.now }
-    ensures within { IfOk result (λ found. IfSome found (λ found. LieWithin text.now found.items)) }
-    ensures fits { IfOk result (λ found. MatchOption found ((b : Bool) → FitsNoDomain text.now tokens.now b) (λ found. (b : Bool) × FitsDomain text.now tokens.now b found.items)) }
+    ensures { IfOk result (λ found. MatchOption found ((d : Domain) → ¬ (SpellsWith text.now tokens.now has_parameters d)) (λ d. SpellsWith text.now tokens.now has_parameters d)) }
 {
-    if let Some(found) = leaves_with(alloc, text, tokens, false)? {
-        return Ok(Some(found));
+    let Some(found) = leaves_with(alloc, text, tokens, has_parameters)? else {
+        return Ok(None);
+    };
+    domain_of(alloc, text, &found)
+}
+
+/// The domain of these tokens.
+fn domain_in(alloc: Global, text: &[u8], tokens: &[Token]) -> Result<Option<Domain>, AllocError>
+    requires { LieWithin text.now tokens.now }
+    ensures { IfOk result (λ found. MatchOption found ((b : Bool) (d : Domain) → ¬ (SpellsWith text.now tokens.now b d)) (λ d. (b : Bool) × SpellsWith text.now tokens.now b d)) }
+{
+    if let Some(domain) = domain_with(alloc, text, tokens, false)? {
+        return Ok(Some(domain));
     }
-    leaves_with(alloc, text, tokens, true)
+    domain_with(alloc, text, tokens, true)
+}
+
+/// Reads a domain of the small grammar, or None where the text is none.
+pub fn read_domain(alloc: Global, text: &[u8]) -> Result<Option<Domain>, AllocError>
+    requires { length text.now < 2 ^ 32 }
+    ensures { IfOk result (λ found. MatchOption found ((d : Domain) → ¬ (IsDomain text.now d)) (λ d. IsDomain text.now d)) }
+{
+    match read_forms(alloc, text) {
+        Ok(forms) => domain_in(alloc, text, forms.tokens()),
+        Err(LexFault::Memory) => Err(AllocError),
+        Err(_) => Ok(None),
+    }
 }

@@ -12,6 +12,8 @@ mod numbers;
 mod reckoned;
 mod validator;
 
+pub use domain::read_domain;
+pub use domains::Domain;
 pub use laws::{places_are_one, verdicts_are_one};
 pub use model::{Bound, Direction, PlanLine, Reason, Rules, Side, Task, Undefined, Verdict};
 pub use validator::validate;

@@ -1,4 +1,4 @@
-use Rattle.std.proofs.Common.{ℕ, ◌≡◌, ◌<◌, ◌^◌, take}
+use Rattle.std.proofs.Common.{◌≡◌, ◌<◌, ◌^◌, take}
 use Rattle.first_path.specs.Decimal.{number_from}
 use Rattle.first_path.proofs.decimal.number_from.Given as goal
 

@@ -1,4 +1,3 @@
-use Rattle.std.proofs.Common.{◌≡◌}
 use Rattle.first_path.proofs.domains.motion_of.Goals as goal
 
 pub returns-in_err-over_all : goal.returns-in_err-over_all
