@@ -6,3 +6,7 @@ pub mod Parts
 pub mod Numbers
 pub mod Widths
 pub mod Results
+pub mod FormValues
+pub mod Zeros
+pub mod Merge
+pub mod MergeTerms

@@ -1,5 +1,5 @@
 -- What signs, negatives, reciprocals and whole numbers are in parts.
-use Rattle.std.proofs.Common.{◌≡◌, true, false, ◌≢◌, ℕ, zero, suc, ◌/◌, ◌<◌, ◌≤◌, refl, sym, ◌∙◌, ap, ap₂, subst, arith, T, ltb, eqb, ◌&&◌, ℤ, pos, negsuc, ◌+ℤ◌, ◌-ℤ◌, ◌*ℤ◌, ◌<ℤ◌, ◌≤ℤ◌}
+use Rattle.std.proofs.Common.{◌≡◌, true, false, ◌≢◌, ℕ, zero, suc, ◌/◌, ◌<◌, ◌≤◌, ◌^◌, refl, sym, ◌∙◌, ap, ap₂, subst, arith, T, ltb, eqb, ◌&&◌, ℤ, pos, negsuc, ◌+ℤ◌, ◌-ℤ◌, ◌*ℤ◌, ◌<ℤ◌, ◌≤ℤ◌}
 use Rattle.std.proofs.Math.IntN.{neg_ℤ, nat_abs}
 use Rattle.std.specs.Int.{IsGcd}
 use Rattle.std.proofs.lemmas.Int.{ints}
@@ -55,15 +55,15 @@ neg-parts n d q i v = ap₂ ratio (back-is (pos 0 -ℤ back n) within ∙ minus-
     within : Within wide_limit (pos 0 -ℤ back n)
     within = omega (arith, abs-minus (back n), ap nat_abs (back-is n i.numerator), i.numerator)
 
-pub neg-fraction : (n : ℤ) (d : ℕ) → IsFraction wide_limit n d → IsFraction wide_limit (pos 0 -ℤ n) d
+pub neg-fraction : {limit : ℕ} (n : ℤ) (d : ℕ) → IsFraction limit n d → IsFraction limit (pos 0 -ℤ n) d
 neg-fraction n d i = record { lowest = lowest_size n (pos 0 -ℤ n) d (abs-minus n) i.lowest; numerator = omega (arith, abs-minus n, i.numerator); denominator = i.denominator }
 
 -- ---- whole numbers
-pub whole-fraction : (z : ℤ) → Within wide_limit z → IsFraction wide_limit z 1
-whole-fraction z h = record { lowest = lowest_in z 1 one_pos (one-dvd _, dvd_refl 1, λ d p q. q); numerator = h; denominator = omega arith }
+pub whole-fraction : (limit : ℕ) (z : ℤ) → 1 ≤ limit → Within limit z → IsFraction limit z 1
+whole-fraction limit z l h = record { lowest = lowest_in z 1 one_pos (one-dvd _, dvd_refl 1, λ d p q. q); numerator = h; denominator = omega arith }
 
 -- ---- reciprocals
-pub turned-fraction : (n : ℤ) (d k : ℕ) → IsFraction wide_limit n d → k ≡ nat_abs n → 0 < k → IsFraction wide_limit (pos d) k
+pub turned-fraction : {limit : ℕ} (n : ℤ) (d k : ℕ) → IsFraction limit n d → k ≡ nat_abs n → 0 < k → IsFraction limit (pos d) k
 turned-fraction n d k i e h = record {
   lowest = lowest_in (pos d) k h (subst (λ (m : ℕ). IsGcd d m 1) (sym e) (IsGcd-swap (nat_abs n) d 1 (lowest_out n d i.lowest).1));
   numerator = i.denominator;
@@ -96,12 +96,12 @@ divided-ratio n zero h = absurd (omega arith)
 divided-ratio n (suc d) h = ratio-parts (ratio n (suc d))
 
 -- ---- numbers of 32 bits
-pub small-within : (z : ℤ) → SFits w32 z → Within wide_limit z
-small-within (pos n) h = omega (arith, h.sfits)
-small-within (negsuc n) h = omega (arith, h.sfits)
+pub small-within : (limit : ℕ) → 2 ^ 31 ≤ limit → (z : ℤ) → SFits w32 z → Within limit z
+small-within limit l (pos n) h = omega (arith, h.sfits)
+small-within limit l (negsuc n) h = omega (arith, h.sfits)
 
 pub small-back : (z : ℤ) → SFits w32 z → back (to_z w32 (of_z w32 z)) ≡ z
-small-back z h = ap back (to_z-of_z h) ∙ back-is z (small-within z h)
+small-back z h = ap back (to_z-of_z h) ∙ back-is z (small-within wide_limit (omega arith) z h)
 
 -- ---- tests against 0, as they stand in a goal
 pub below_zero : (n : ℤ) (d : ℕ) (q : ℚ) → IsFraction wide_limit n d → ratio n d ≡ q → lt_z (back n) (pos 0) ≡ true → q.num <ℤ pos 0

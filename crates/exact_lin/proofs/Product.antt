@@ -8,7 +8,7 @@ use Rattle.rational.specs.Gcd.{gcd}
 use Rattle.rational.specs.Divisors.{gcd-is, gcd_pos, lowest}
 use Rattle.rational.specs.Lowest.{over, over-times, abs-over, is_lowest, lowest_out, lowest_in}
 use Rattle.rational.specs.Rational.{ℚ, ratio, ◌*ℚ◌}
-use Rattle.rational.proofs.Ring.{var, times, minus, combine}
+use Rattle.rational.proofs.Ring.{minus, combine, ◌≐◌, ◌⊗◌}
 use Rattle.rational.proofs.Integers.{ℤ_ring}
 use Rattle.rational.proofs.Fractions.{den_pos, equal_ratios}
 use Rattle.rational.proofs.Coprime.{Coprime, coprime_both, coprime_swap, coprime-mul, quotient-divides}
@@ -42,11 +42,10 @@ module _ (q r : ℚ) where
 
   value : (x z n m : ℤ) (b d g h bh dg : ℕ) → x *ℤ pos g ≡ n → z *ℤ pos h ≡ m → bh * h ≡ b → dg * g ≡ d → (x *ℤ z) *ℤ pos (b * d) ≡ (n *ℤ m) *ℤ pos (bh * dg)
   value x z n m b d g h bh dg e f i j = combine ℤ_ring (x ∷ z ∷ n ∷ m ∷ pos b ∷ pos d ∷ pos g ∷ pos h ∷ pos bh ∷ pos dg ∷ [])
-      ((times (times (var 8) (var 9)) (times (var 1) (var 7)), times (var 0) (var 6), var 2)
-      ∷ (times (times (var 8) (var 9)) (var 2), times (var 1) (var 7), var 3)
-      ∷ (minus (times (times (var 0) (var 1)) (var 5)), times (var 8) (var 7), var 4)
-      ∷ (minus (times (times (var 0) (var 1)) (times (var 8) (var 7))), times (var 9) (var 6), var 5) ∷ [])
-      (times (times (var 0) (var 1)) (times (var 4) (var 5))) (times (times (var 2) (var 3)) (times (var 8) (var 9)))
+      (λ x z n m b d g h bh dg. record {
+        goal = (x ⊗ z) ⊗ (b ⊗ d) ≐ (n ⊗ m) ⊗ (bh ⊗ dg);
+        from = ((bh ⊗ dg) ⊗ (z ⊗ h), x ⊗ g ≐ n) ∷ ((bh ⊗ dg) ⊗ n, z ⊗ h ≐ m) ∷ (minus ((x ⊗ z) ⊗ d), bh ⊗ h ≐ b) ∷ (minus ((x ⊗ z) ⊗ (bh ⊗ h)), dg ⊗ g ≐ d) ∷ [];
+      })
       (e, (f, (ap pos i, (ap pos j, tt)))) refl
 
   pub product-value : ratio (product_numerator q.num q.den r.num r.den) (product_denominator q.num q.den r.num r.den) ≡ q *ℚ r

@@ -6,7 +6,6 @@ use Rattle.std.proofs.lemmas.Nat.Gcd.{IsGcd-from_mod}
 use Rattle.rational.specs.Gcd.{gcd}
 use Rattle.rational.specs.Divisors.{gcd-is, gcd-from-is}
 
-
 same_rank : (o : Ordering) (x y u v : ℕ) → MatchOrdering o (x < y) (x ≡ y) (y < x) → (x < y → u < v) → (x ≡ y → u ≡ v) → (y < x → v < u) → MatchOrdering o (u < v) (u ≡ v) (v < u)
 same_rank Less x y u v m f g h = f m
 same_rank Equal x y u v m f g h = g m

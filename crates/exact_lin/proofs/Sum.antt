@@ -10,7 +10,7 @@ use Rattle.rational.specs.Gcd.{gcd}
 use Rattle.rational.specs.Divisors.{gcd-is, gcd_pos, lowest, gauss}
 use Rattle.rational.specs.Lowest.{over-times, abs-over, is_lowest, lowest_out, lowest_in}
 use Rattle.rational.specs.Rational.{ℚ, ratio, ◌+ℚ◌}
-use Rattle.rational.proofs.Ring.{var, times, plus, minus, combine, ring}
+use Rattle.rational.proofs.Ring.{minus, law, combine, ◌≐◌, ◌⊗◌, ◌⊕◌, ◌⊖◌}
 use Rattle.rational.proofs.Integers.{ℤ_ring}
 use Rattle.rational.proofs.Fractions.{den_pos, equal_ratios}
 use Rattle.rational.proofs.Coprime.{Coprime, coprime_left, coprime_both, coprime_swap, coprime-mul, quotient-divides}
@@ -35,7 +35,7 @@ abs-neg (pos (suc n)) = refl
 abs-neg (negsuc n) = refl
 
 divides-rest : (k : ℕ) (x y : ℤ) → k ∣ nat_abs (x +ℤ y) → k ∣ nat_abs y → k ∣ nat_abs x
-divides-rest k x y h i = subst (λ z. k ∣ nat_abs z) (ring ℤ_ring (x ∷ y ∷ []) (plus (plus (var 0) (var 1)) (minus (var 1))) (var 0) refl)
+divides-rest k x y h i = subst (λ z. k ∣ nat_abs z) (law ℤ_ring (x ∷ y ∷ []) (λ x y. (x ⊕ y) ⊖ y ≐ x) refl)
     (divides-sum k (x +ℤ y) (neg_ℤ y) h (subst (λ (n : ℕ). k ∣ n) (sym (abs-neg y)) i))
 
 -- the sum of the two both_terms has nothing in common with what stands over one of them
@@ -55,11 +55,10 @@ split-over d dg g h gh dh p e f i = eq_of_mul-eq-mul_right h p dh (dg * gh) (i �
 value : (t a c : ℤ) (b d g h bg dg dh : ℕ) → t *ℤ pos h ≡ a *ℤ pos dg +ℤ c *ℤ pos bg → bg * g ≡ b → dg * g ≡ d → dh * h ≡ d
     → t *ℤ pos (b * d) ≡ (a *ℤ pos d +ℤ c *ℤ pos b) *ℤ pos (bg * dh)
 value t a c b d g h bg dg dh e f i j = combine ℤ_ring (t ∷ a ∷ c ∷ pos b ∷ pos d ∷ pos g ∷ pos h ∷ pos bg ∷ pos dg ∷ pos dh ∷ [])
-    ((times (times (var 7) (var 5)) (var 9), times (var 0) (var 6), plus (times (var 1) (var 8)) (times (var 2) (var 7)))
-    ∷ (plus (minus (times (var 0) (var 4))) (times (times (var 2) (var 7)) (var 9)), times (var 7) (var 5), var 3)
-    ∷ (times (times (var 1) (var 7)) (var 9), times (var 8) (var 5), var 4)
-    ∷ (minus (times (times (var 0) (var 7)) (var 5)), times (var 9) (var 6), var 4) ∷ [])
-    (times (var 0) (times (var 3) (var 4))) (times (plus (times (var 1) (var 4)) (times (var 2) (var 3))) (times (var 7) (var 9)))
+    (λ t a c b d g h bg dg dh. record {
+      goal = t ⊗ (b ⊗ d) ≐ (a ⊗ d ⊕ c ⊗ b) ⊗ (bg ⊗ dh);
+      from = ((bg ⊗ g) ⊗ dh, t ⊗ h ≐ a ⊗ dg ⊕ c ⊗ bg) ∷ (minus (t ⊗ d) ⊕ (c ⊗ bg) ⊗ dh, bg ⊗ g ≐ b) ∷ ((a ⊗ bg) ⊗ dh, dg ⊗ g ≐ d) ∷ (minus ((t ⊗ bg) ⊗ g), dh ⊗ h ≐ d) ∷ [];
+    })
     (e, (ap pos f, (ap pos i, (ap pos j, tt)))) refl
 
 module _ (q r : ℚ) where

@@ -73,7 +73,7 @@ impl Narrow {
     /// The same number in parts of 128 bits.
     pub fn widen(self) -> Fraction
         ensures value { result ≡ self }
-        ensures fits { Fits narrow_limit self }
+        ensures fits { Fits narrow_limit result }
     {
         Fraction::made(self.num as i128, self.den as u128)
     }
@@ -262,4 +262,128 @@ impl Scalar for Fraction {
     ghost wide_sums = { λ x y h. h };
 
     ghost wide_products = { λ x y h. h };
+}
+
+impl Scalar for Narrow {
+    ghost use Rattle.std.specs.Prelude.{refl};
+    ghost use Rattle.rational.specs.Rational.{ℚ};
+    ghost use Rattle.exact_lin.specs.Reckoning.{narrow_limit};
+    ghost use Rattle.exact_lin.specs.Scalars.{parts-decide};
+    ghost use Rattle.exact_lin.specs.Limits.{CanAdd-larger, CanMultiply-larger, narrow-below_wide};
+
+    ghost value = { λ q. q };
+
+    ghost limit = { narrow_limit };
+
+    fn of_int(n: i32) -> Narrow {
+        Fraction::of_whole(n).narrowed()
+    }
+
+    fn add(self, other: Narrow) -> Result<Narrow, Wide> {
+        match self.widen().sum_within(other.widen(), NARROW_LIMIT) {
+            Ok(sum) => Ok(sum.narrowed()),
+            Err(wide) => Err(wide),
+        }
+    }
+
+    fn mul(self, other: Narrow) -> Result<Narrow, Wide> {
+        match self.widen().product_within(other.widen(), NARROW_LIMIT) {
+            Ok(product) => Ok(product.narrowed()),
+            Err(wide) => Err(wide),
+        }
+    }
+
+    fn neg(self) -> Narrow {
+        self.widen().negative().narrowed()
+    }
+
+    fn recip(self) -> Narrow {
+        self.widen().reciprocal().narrowed()
+    }
+
+    fn sign(self) -> Sign {
+        self.widen().sign_of()
+    }
+
+    fn cmp(self, other: Narrow) -> Ordering {
+        self.widen().order(other.widen())
+    }
+
+    ghost distinct = { λ x y e. e };
+
+    ghost decides = { parts-decide };
+
+    ghost narrow_sums = { λ x y h. h };
+
+    ghost narrow_products = { λ x y h. h };
+
+    ghost wide_sums = { λ x y. CanAdd-larger _ _ narrow-below_wide x y };
+
+    ghost wide_products = { λ x y. CanMultiply-larger _ _ narrow-below_wide x y };
+}
+
+impl PartialOrd for Fraction {
+    ghost use Rattle.std.specs.Prelude.{Some};
+    ghost use Rattle.std.specs.Cmp.{po};
+    ghost use Rattle.rational.specs.Rational.{cmp_ℚ};
+    ghost use Rattle.rational.proofs.Compare.{cmp_ℚ_total, tiesℚ};
+
+    ghost partial_cmp = { λ a b. Some (cmp_ℚ a b) };
+
+    ghost laws = { po cmp_ℚ_total tiesℚ };
+
+    fn partial_cmp(&self, other: &Fraction) -> Option<Ordering> {
+        Some(self.order(*other))
+    }
+}
+
+impl Ord for Fraction {
+    ghost use Rattle.std.specs.Prelude.{refl};
+    ghost use Rattle.rational.specs.Rational.{cmp_ℚ};
+    ghost use Rattle.rational.proofs.Compare.{cmp_ℚ_total, tiesℚ};
+
+    ghost cmp = { cmp_ℚ };
+
+    ghost total = { cmp_ℚ_total };
+
+    ghost matches_partial_cmp = { λ a b. refl };
+
+    ghost matches_eq = { tiesℚ };
+
+    fn cmp(&self, other: &Fraction) -> Ordering {
+        self.order(*other)
+    }
+}
+
+impl PartialOrd for Narrow {
+    ghost use Rattle.std.specs.Prelude.{Some};
+    ghost use Rattle.std.specs.Cmp.{po};
+    ghost use Rattle.rational.specs.Rational.{cmp_ℚ};
+    ghost use Rattle.rational.proofs.Compare.{cmp_ℚ_total, tiesℚ};
+
+    ghost partial_cmp = { λ a b. Some (cmp_ℚ a b) };
+
+    ghost laws = { po cmp_ℚ_total tiesℚ };
+
+    fn partial_cmp(&self, other: &Narrow) -> Option<Ordering> {
+        Some(self.widen().order(other.widen()))
+    }
+}
+
+impl Ord for Narrow {
+    ghost use Rattle.std.specs.Prelude.{refl};
+    ghost use Rattle.rational.specs.Rational.{cmp_ℚ};
+    ghost use Rattle.rational.proofs.Compare.{cmp_ℚ_total, tiesℚ};
+
+    ghost cmp = { cmp_ℚ };
+
+    ghost total = { cmp_ℚ_total };
+
+    ghost matches_partial_cmp = { λ a b. refl };
+
+    ghost matches_eq = { tiesℚ };
+
+    fn cmp(&self, other: &Narrow) -> Ordering {
+        self.widen().order(other.widen())
+    }
 }

@@ -4,9 +4,15 @@
 //! width, and no result is ever rounded.
 #![tactic(auto)]
 
+mod forms;
 mod fractions;
+mod id_vec;
+mod ids;
 mod reckoning;
 mod scalars;
 
+pub use forms::{Form, FormFault, NoMemory};
 pub use fractions::{Fraction, Narrow};
+pub use id_vec::IdVec;
+pub use ids::{ActionId, FactId, FluentId, Id, RowId, SnapId, StepId, TermId, TokenId, VarId};
 pub use scalars::{Scalar, Sign, Wide};

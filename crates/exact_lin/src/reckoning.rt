@@ -108,7 +108,11 @@ fn plus(limit: u128, a: i128, b: i128) -> Option<i128>
     ensures { SomeIff result (Within limit (a +ℤ b)) (a +ℤ b) }
 {
     match a.checked_add(b) {
-        Some(sum) => if sum.unsigned_abs() <= limit { Some(sum) } else { None },
+        Some(sum) => if sum.unsigned_abs() <= limit {
+            Some(sum)
+        } else {
+            None
+        },
         None => None,
     }
 }

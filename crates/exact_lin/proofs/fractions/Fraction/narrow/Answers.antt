@@ -8,8 +8,8 @@ narrowed-requires c = fits-parts _ _ c.args.self c.self.invariant c.self.view_is
 
 pub returns-else-unsigned_abs-le-NARROW_LIMIT : goal.returns-else-unsigned_abs-le-NARROW_LIMIT
 returns-else-unsigned_abs-le-NARROW_LIMIT c = λ f. elim c.else-unsigned_abs-le-NARROW_LIMIT.branch [
-  else-unsigned_abs-le-NARROW_LIMIT-via-then-unsigned_abs-le-NARROW_LIMIT+else-self-le-NARROW_LIMIT w ↦
-    omega (arith, w.if-self-le-NARROW_LIMIT.false, denominator-small _ _ c.args.self c.self.invariant c.self.view_is f)
+  | else-unsigned_abs-le-NARROW_LIMIT-via-then-unsigned_abs-le-NARROW_LIMIT+else-self-le-NARROW_LIMIT w ↦
+      omega (arith, w.if-self-le-NARROW_LIMIT.false, denominator-small _ _ c.args.self c.self.invariant c.self.view_is f)
   | else-unsigned_abs-le-NARROW_LIMIT-via-else-unsigned_abs-le-NARROW_LIMIT w ↦
-    omega (arith, w.if-unsigned_abs-le-NARROW_LIMIT.false, c.unsigned_abs.ensures.value, numerator-small _ _ c.args.self c.self.invariant c.self.view_is f)
+      omega (arith, w.if-unsigned_abs-le-NARROW_LIMIT.false, c.unsigned_abs.ensures.value, numerator-small _ _ c.args.self c.self.invariant c.self.view_is f)
 ]

@@ -30,5 +30,5 @@ returns-clause-scanned c =
       | else-self-eq0 w ↦
           subst Holds (sym w.self-is)
           (scanned_same _ _ _ _ _ _ _ _ _ (pushed.at ∙ add-one _) (add-one _ ∙ ap suc pushed.depth) pushed.outermost (rw add-one at pushed.tokens)
-          (scanned_open _ _ _ _ _ c.requires.scanned c.requires.opens c.requires.clear (omega (arith, w.if-self-eq0.false, pushed.depth)) c.if-self-ge-MAX_DEPTH.false))
+          (scanned_open _ _ _ _ _ c.requires.scanned c.requires.opens c.requires.clear (omega (arith, w.if-self-eq0.false, pushed.depth)) (omega (arith, c.if-self-ge-MAX_DEPTH.false))))
     ]

@@ -1,0 +1,5 @@
+pub mod Replies
+pub mod Works
+pub mod Words
+pub mod Sessions
+pub mod Stops

@@ -1,0 +1,16 @@
+pub mod Numbers
+pub mod State
+pub mod Plan
+pub mod Course
+pub mod Clash
+pub mod Trace
+pub mod Cost
+pub mod Valid
+pub mod Touch
+pub mod Order
+pub mod Blocking
+pub mod Agreement
+pub mod Reckoned
+pub mod Laws
+pub mod WellMade
+pub mod Examples

@@ -1,0 +1,49 @@
+//! Laws of the definitions: each function does nothing, and its contract is the law.
+
+ghost use Rattle.task_types.specs.Examples.{TasksAreWellMade, CoursesComeOut, ClashesComeOut, CostsComeOut, OrderingsComeOut, TouchesComeOut};
+ghost use Rattle.task_types.specs.Laws.{OneListOfHappenings, SegmentsGoByTheirEnds, ValidOrOneReason, BothWaysRound, LinesInAnyOrder, ConstraintsAlongTheTrace, ReckoningsEndAtTheValue};
+
+/// The happenings of a plan are the one ascending list of the times of its steps.
+pub fn one_list_of_happenings()
+    ensures { OneListOfHappenings }
+{}
+
+/// Between two adjacent happenings a condition holds at every instant exactly where it holds at both ends: fluents change there at constant rates (Fox and Long 2003).
+pub fn segments_go_by_their_ends()
+    ensures { SegmentsGoByTheirEnds }
+{}
+
+/// A plan whose lines have durations exactly where their actions are durative is valid or has a first reason, never both, and only one.
+pub fn valid_or_one_reason()
+    ensures { ValidOrOneReason }
+{}
+
+/// Clashes and links are the same both ways round.
+pub fn both_ways_round()
+    ensures { BothWaysRound }
+{}
+
+/// The order of a plan's lines and their numbers are free, where no two assignments to one fluent meet, as in each valid plan of a well made task under an epsilon above 0.
+pub fn lines_in_any_order()
+    ensures { LinesInAnyOrder }
+{}
+
+/// Each trajectory constraint, said of the states by their numbers, is what one pass along the states finds; and at most once says that in no three states, in their order, the formula holds, fails and holds (Gerevini and Long 2005).
+pub fn constraints_along_the_trace()
+    ensures { ConstraintsAlongTheTrace }
+{}
+
+/// What is reckoned step by step ends at the exact value that is meant, so a reckoning that is defined throughout has that value.
+pub fn reckonings_end_at_the_value()
+    ensures { ReckoningsEndAtTheValue }
+{}
+
+/// What the definitions give on small tasks.
+pub fn examples_come_out()
+    ensures well_made { TasksAreWellMade }
+    ensures courses { CoursesComeOut }
+    ensures clashes { ClashesComeOut }
+    ensures costs { CostsComeOut }
+    ensures orderings { OrderingsComeOut }
+    ensures touches { TouchesComeOut }
+{}
