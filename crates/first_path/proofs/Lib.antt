@@ -1,6 +1,11 @@
 pub mod Bounds
+pub mod Decimals
+pub mod DomainParts
+pub mod DomainReading
+pub mod DomainLeaves
 pub mod Fitting
 pub mod Segments
 pub mod States
 pub mod Verdicts
 pub mod Uniqueness
+pub mod ProblemReading
