@@ -1,4 +1,8 @@
 pub mod Bounds
+pub mod Decimals
+pub mod DomainParts
+pub mod DomainReading
+pub mod DomainLeaves
 pub mod Fitting
 pub mod Segments
 pub mod States

@@ -3,3 +3,7 @@ pub mod Validity
 pub mod Course
 pub mod Laws
 pub mod Grammar
+pub mod Domain
+pub mod Decimal
+pub mod Leaves
+pub mod DomainText

@@ -1,6 +1,6 @@
 //! The fixed words of the notation, and texts that are spelled by a list of parts.
 
-ghost use Rattle.std.specs.Prelude.{◌≡◌, ◌↔◌, ◌≤◌, IsTrue, length, IfOk, MatchOption};
+ghost use Rattle.std.specs.Prelude.{◌≡◌, ◌↔◌, ◌≤◌, ℕ, List, IsTrue, length, IfOk, MatchOption};
 ghost use Rattle.sexpr_text.specs.Forms.{LieWithin};
 ghost use Rattle.first_path.specs.Grammar.{spelling, Fit, Fits, bytes_of, is_leaf, leaves, is_flag, is_condition_flag, is_number_flag, is_other_flag, same_word};
 
@@ -184,7 +184,8 @@ fn is_leaf(part: Part) -> bool
 
 /// The tokens that stand at leaves.
 pub fn leaves(alloc: Global, tokens: &[Token], parts: &[Part]) -> Result<Vec<Token>, AllocError>
-    ensures { IfOk result (λ v. v.items ≡ leaves tokens.now parts.now) }
+    ensures value { IfOk result (λ v. v.items ≡ leaves tokens.now parts.now) }
+    ensures within { (text : List ℕ) → LieWithin text tokens.now → IfOk result (λ v. LieWithin text v.items) }
 {
     tokens
         .iter()

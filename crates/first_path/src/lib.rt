@@ -2,6 +2,9 @@
 //! that decides it exactly.
 #![tactic(auto)]
 
+mod decimal;
+mod domain;
+mod domains;
 mod grammar;
 mod laws;
 mod model;
@@ -9,6 +12,8 @@ mod numbers;
 mod reckoned;
 mod validator;
 
+pub use domain::read_domain;
+pub use domains::Domain;
 pub use laws::{places_are_one, verdicts_are_one};
 pub use model::{Bound, Direction, PlanLine, Reason, Rules, Side, Task, Undefined, Verdict};
 pub use validator::validate;
