@@ -1,2 +1,4 @@
 pub mod Led
 pub mod Facts
+pub mod Scans
+pub mod Fields

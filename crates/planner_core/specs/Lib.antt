@@ -1,4 +1,8 @@
 pub mod Replies
+pub mod Validations
+pub mod PlanFile
+pub mod Scanning
+pub mod Seen
 pub mod Works
 pub mod Words
 pub mod Sessions

@@ -1,6 +1,5 @@
 -- What a stop of the work stands for.
 use Rattle.std.specs.Prelude.{ℕ, Option, Some, None, Result, Ok, Err, Vec}
-use Rattle.std.specs.declared.alloc.AllocError.{AllocError}
 use Rattle.std.specs.declared.alloc.Global.{Global}
 use Rattle.outside.specs.Fetching.{Answer}
 use Rattle.outside.specs.declared.desk.Fetch.{Fetch}
@@ -33,6 +32,6 @@ outcome (Ok said) = Some said
 outcome (Err stop) = stop_said stop
 
 -- the reply, where memory was not refused
-abbrev pub reply_said : Result Said AllocError → Option Said
+abbrev pub reply_said : {E : Type 0} → Result Said E → Option Said
 reply_said (Ok said) = Some said
 reply_said (Err e) = None

@@ -5,8 +5,9 @@ ghost use Rattle.planner_core.specs.declared.fetching.Stop.TheVariants.{Memory};
 ghost use Rattle.planner_core.specs.Stops.{answer_seen, why_of, stop_said};
 
 use crate::reply::{Role, read_fault_text};
+use exact_lin::NoMemory;
 use outside::{Desk, Fetch};
-use std::alloc::{AllocError, Global};
+use std::alloc::Global;
 
 /// Why a command ends before its texts are answered.
 #[derive(Drop)]
@@ -18,10 +19,10 @@ pub enum Stop {
     Memory,
 }
 
-impl From<AllocError> for Stop {
+impl From<NoMemory> for Stop {
     ghost from_gives = { λ _ stop. stop ≡ Memory };
 
-    fn from(_: AllocError) -> Self {
+    fn from(_: NoMemory) -> Self {
         Stop::Memory
     }
 }

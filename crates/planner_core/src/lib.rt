@@ -2,10 +2,12 @@
 #![tactic(auto)]
 
 mod fetching;
+mod plan_file;
 mod planner;
 mod reply;
 mod session;
 mod status;
+mod validation;
 mod words;
 
 pub use planner::Planner;

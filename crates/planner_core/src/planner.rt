@@ -2,7 +2,8 @@ ghost use Rattle.std.specs.Prelude.{IfOk};
 ghost use Rattle.planner_core.specs.Works.{Meanings, SayAnswers};
 
 use crate::reply::Reply;
-use std::alloc::{AllocError, Global};
+use exact_lin::NoMemory;
+use std::alloc::Global;
 
 /// What stands behind the fetches: it turns the texts of files into replies.
 pub trait Planner {
@@ -19,6 +20,6 @@ pub trait Planner {
         domain: &[u8],
         problem: &[u8],
         plan: &[u8],
-    ) -> Result<Reply, AllocError>
+    ) -> Result<Reply, NoMemory>
         ensures { IfOk result ((meanings self.now).validation domain.now problem.now plan.now) };
 }

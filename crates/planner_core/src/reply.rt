@@ -2,7 +2,8 @@ ghost use Rattle.std.specs.Prelude.{◌≡◌, IfOk, Some};
 ghost use Rattle.planner_core.specs.Replies.{role_word, usage, read_fault, too_long};
 
 use crate::status::Status;
-use std::alloc::{AllocError, Global};
+use exact_lin::NoMemory;
+use std::alloc::Global;
 use std::fmt;
 use std::marker::Model;
 
@@ -63,7 +64,7 @@ impl Reply {
 }
 
 /// The reply to words that are no command's.
-pub fn usage_reply(alloc: Global) -> Result<Reply, AllocError>
+pub fn usage_reply(alloc: Global) -> Result<Reply, NoMemory>
     ensures { IfOk result (λ reply. reply ≡ usage) }
 {
     let text = b"usage: fluxplan validate or schedule or plan or check or demo\n";
@@ -71,14 +72,14 @@ pub fn usage_reply(alloc: Global) -> Result<Reply, AllocError>
 }
 
 /// The text of the reply to a fetch that failed.
-pub fn read_fault_text(alloc: Global, name: &str) -> Result<Vec<u8>, AllocError>
+pub fn read_fault_text(alloc: Global, name: &str) -> Result<Vec<u8>, NoMemory>
     ensures { IfOk result (λ text. text.items ≡ (read_fault name.now).text) }
 {
     Ok(format!(in alloc; "read fault {name}\n")?.into_bytes())
 }
 
 /// The reply to a file that is too long; `count` bytes of it were taken.
-pub fn too_long_reply(alloc: Global, role: Role, count: u64) -> Result<Reply, AllocError>
+pub fn too_long_reply(alloc: Global, role: Role, count: u64) -> Result<Reply, NoMemory>
     ensures { IfOk result (λ reply. reply ≡ too_long role count) }
 {
     let text = format!(in alloc; "refused {role} Long {count}\n")?;

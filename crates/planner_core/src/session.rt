@@ -9,8 +9,9 @@ use crate::planner::Planner;
 use crate::reply::{Reply, Role, too_long_reply, usage_reply};
 use crate::status::Status;
 use crate::words::{Command, read_words};
+use exact_lin::NoMemory;
 use outside::{Desk, Sink};
-use std::alloc::{AllocError, Global};
+use std::alloc::Global;
 
 /// Runs the program over a planner: from the words of the command line, without the program's
 /// name, to the reply in the sink, which goes out whole in one put.
@@ -58,7 +59,7 @@ fn reply_to<P: Planner, D: Desk>(
     planner: &P,
     words: &[String],
     desk: &mut D,
-) -> Result<Reply, AllocError>
+) -> Result<Reply, NoMemory>
     requires { (D.told desk.old).faults < 2 ^ 64 - 1 }
     ensures { Came (work_of (P.meanings planner.now) (texts words.now)) (D.told desk.old) (D.told desk.new) (reply_said result) }
 {
@@ -66,7 +67,7 @@ fn reply_to<P: Planner, D: Desk>(
         Ok(reply) => Ok(reply),
         Err(Stop::Fault(text)) => Ok(Reply::new(Status::ReadFault, text)),
         Err(Stop::Long(role, count)) => too_long_reply(alloc, role, count),
-        Err(Stop::Memory) => Err(AllocError),
+        Err(Stop::Memory) => Err(NoMemory),
     }
 }
 

@@ -4,6 +4,7 @@ ghost use Rattle.planner_core.specs.declared.status.Status.TheVariants.{Done};
 ghost use Rattle.planner_core.specs.Replies.{IsAnswerStatus};
 
 use crate::{Planner, Reply, Status, run_over};
+use exact_lin::NoMemory;
 use outside::{LONGEST_FILE, MemoryDesk, MemorySink};
 use std::alloc::{AllocError, Global};
 use std::test::Fail;
@@ -22,7 +23,7 @@ impl Planner for Easy {
         _domain: &[u8],
         _problem: &[u8],
         _plan: &[u8],
-    ) -> Result<Reply, AllocError> {
+    ) -> Result<Reply, NoMemory> {
         let text = Vec::from_slice(alloc, b"valid cost 5.000\n")?;
         Ok(Reply::new(Status::Done, text))
     }
