@@ -123,6 +123,9 @@ module _ (f g : LinearForm) (y p q product k : ℚ) (a b us vs ts : Terms) (here
   pub scaled-value : (x : ℕ → ℚ) → form_at (record { constant = k; terms = ts }) x ≡ form_at f x +ℚ y *ℚ form_at g x
   scaled-value x = ap (λ (h : LinearForm). form_at h x) scaled-is ∙ form_at-plus_scaled f y g x
 
+pub constant-value : (f : LinearForm) (c p k : ℚ) (a : Terms) → record { constant = p; terms = a } ≡ f → k ≡ p +ℚ c → (x : ℕ → ℚ) → form_at (record { constant = k; terms = a }) x ≡ form_at f x +ℚ c
+constant-value f c p k a here is x = ap (λ (q : ℚ). q +ℚ terms_at a x) is ∙ form_at-plus_constant (record { constant = p; terms = a }) c x ∙ ap (λ (h : LinearForm). form_at h x +ℚ c) here
+
 module _ (f : LinearForm) (v : ℕ) (c p : ℚ) (a ts : Terms) (here : record { constant = p; terms = a } ≡ f) (is : ts ≡ increased a v c) where
   pub term-is : record { constant = p; terms = ts } ≡ plus_term f v c
   term-is = ap form is ∙ ap (λ (u : LinearForm). plus_term u v c) here

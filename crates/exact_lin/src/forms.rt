@@ -68,10 +68,11 @@ impl<V: Id, S: Scalar> Form<V, S> {
         self.terms.as_slice()
     }
 
-    /// Adds a number to the constant.
+    /// Adds a number to the constant. The form is unchanged where that fails.
     pub fn add_constant(&mut self, c: S) -> Result<(), Wide>
         ensures defined { OnOk result (CanAdd S.limit self.old.constant (S.value c)) }
         ensures form { OnOk result (self.new ≡ plus_constant self.old (S.value c)) }
+        ensures value { OnOk result ((x : ℕ → ℚ) → form_at self.new x ≡ form_at self.old x +ℚ S.value c) }
         ensures wide { OnErr result (¬ (CanAdd S.limit self.old.constant (S.value c))) }
         ensures err { OnErr result (self.new ≡ self.old) }
     {

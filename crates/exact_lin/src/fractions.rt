@@ -136,6 +136,7 @@ impl Fraction {
         Fraction { num, den }
     }
 
+    // The fraction of two parts, brought to lowest terms.
     fn reduced(num: i128, den: u128) -> Fraction
         requires numerator { Within wide_limit num }
         requires positive { 0 < den }
@@ -201,12 +202,14 @@ impl Fraction {
         }
     }
 
+    // Whether neither part is past the limit.
     fn is_within(self, limit: u128) -> bool
         ensures { IsTrue result ↔ Fits limit self }
     {
         self.num.unsigned_abs() <= limit && self.den <= limit
     }
 
+    // The same number in parts of 64 bits, which it fits.
     fn narrowed(self) -> Narrow
         requires { Fits narrow_limit self }
         ensures { result ≡ self }

@@ -25,6 +25,7 @@ fn greatest_narrow(a: u64, b: u64) -> u64
     x
 }
 
+// The same in 128 bits, as long as it needs them.
 fn greatest_wide(a: u128, b: u128) -> u128
     ensures { result ≡ gcd a b }
 {
@@ -60,6 +61,7 @@ pub fn divided(a: i128, g: u128) -> i128
     if g == 1 { a } else { a / (g as i128) }
 }
 
+// A denominator divided by a common factor.
 fn divided_up(a: u128, g: u128) -> u128
     requires { 0 < g }
     ensures { result ≡ a / g }
@@ -67,6 +69,7 @@ fn divided_up(a: u128, g: u128) -> u128
     if g == 1 { a } else { a / g }
 }
 
+// A numerator times an unsigned factor, or None past the limit.
 fn multiply(limit: u128, a: i128, b: u128) -> Option<i128>
     requires limit { limit ≤ wide_limit }
     requires fits { b ≤ wide_limit }
@@ -75,6 +78,7 @@ fn multiply(limit: u128, a: i128, b: u128) -> Option<i128>
     multiply_signed(limit, a, b as i128)
 }
 
+// The product of two numerators, or None past the limit.
 fn multiply_signed(limit: u128, a: i128, b: i128) -> Option<i128>
     requires { limit ≤ wide_limit }
     ensures { SomeIff result (Within limit (a *ℤ b)) (a *ℤ b) }
@@ -89,6 +93,7 @@ fn multiply_signed(limit: u128, a: i128, b: i128) -> Option<i128>
     }
 }
 
+// The product of two denominators, or None past the limit.
 fn multiply_up(limit: u128, a: u128, b: u128) -> Option<u128>
     requires { limit ≤ wide_limit }
     ensures { SomeIff result (a * b ≤ limit) (a * b) }
@@ -103,6 +108,7 @@ fn multiply_up(limit: u128, a: u128, b: u128) -> Option<u128>
     }
 }
 
+// The sum of two numerators, or None past the limit.
 fn plus(limit: u128, a: i128, b: i128) -> Option<i128>
     requires { limit ≤ wide_limit }
     ensures { SomeIff result (Within limit (a +ℤ b)) (a +ℤ b) }

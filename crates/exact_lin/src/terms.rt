@@ -11,6 +11,7 @@ use crate::scalars::{Scalar, Sign, Wide};
 use std::alloc::Global;
 use std::cmp::Ordering;
 
+// A number and the values of the terms at a point, summed one after the other.
 pub fn sum_terms<V: Id, S: Scalar>(start: S, terms: &[(V, S)], point: &[S]) -> Result<S, Wide>
     requires { Covers (length point.now) (shown V.number_of S.value terms.now) }
     ensures { Reckons S.value result (CanSumTerms S.limit (S.value start) (shown V.number_of S.value terms.now) (values_of (map S.value point.now))) (S.value start +ℚ terms_at (shown V.number_of S.value terms.now) (values_of (map S.value point.now))) }
@@ -24,6 +25,7 @@ pub fn sum_terms<V: Id, S: Scalar>(start: S, terms: &[(V, S)], point: &[S]) -> R
     Ok(sum)
 }
 
+// Whether the scalar is 0; and that it keeps to the limit of its width.
 fn is_zero_scalar<S: Scalar>(c: S) -> bool
     ensures value { result ≡ is_zero (S.value c) }
     ensures fits { Fits S.limit (S.value c) }
@@ -181,6 +183,7 @@ fn insert_term<V: Id, S: Scalar>(
     }
 }
 
+// `Vec::push` with the error of this crate.
 fn push<T: Copy + Drop>(items: &mut Vec<T>, item: T) -> Result<(), NoMemory>
     ensures { OnOk result (items.new.items ≡ items.old.items ++ item ∷ []) }
 {
