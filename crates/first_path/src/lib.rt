@@ -19,3 +19,6 @@ pub use laws::{places_are_one, verdicts_are_one};
 pub use model::{Bound, Direction, PlanLine, Reason, Rules, Side, Task, Undefined, Verdict};
 pub use problem::read_problem;
 pub use validator::validate;
+
+#[cfg(test)]
+mod tests;
