@@ -8,3 +8,4 @@ pub mod Segments
 pub mod States
 pub mod Verdicts
 pub mod Uniqueness
+pub mod ProblemReading

@@ -7,3 +7,4 @@ pub mod Domain
 pub mod Decimal
 pub mod Leaves
 pub mod DomainText
+pub mod Problem

@@ -70,7 +70,7 @@ fn is_left_out(word: &[u8]) -> bool
     is_left_out_list(word) || is_left_out_formula(word)
 }
 
-fn number_of(text: &[u8], token: Token) -> Option<Fraction>
+pub fn number_of(text: &[u8], token: Token) -> Option<Fraction>
     requires { IsWithin text.now token }
     ensures { MatchOption result ((q : ℚ) → ¬ (SpellsNumber text.now token q)) (λ q. SpellsNumber text.now token q) }
 {

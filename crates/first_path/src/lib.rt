@@ -9,6 +9,7 @@ mod grammar;
 mod laws;
 mod model;
 mod numbers;
+mod problem;
 mod reckoned;
 mod validator;
 
@@ -16,4 +17,5 @@ pub use domain::read_domain;
 pub use domains::Domain;
 pub use laws::{places_are_one, verdicts_are_one};
 pub use model::{Bound, Direction, PlanLine, Reason, Rules, Side, Task, Undefined, Verdict};
+pub use problem::read_problem;
 pub use validator::validate;

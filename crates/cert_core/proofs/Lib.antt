@@ -1,0 +1,13 @@
+pub mod PartialSums
+pub mod Judging
+pub mod Meaning
+pub mod Columns
+pub mod Parts
+pub mod Exactness
+pub mod Leaves
+pub mod Deciding
+pub mod Proving
+pub mod Counting
+pub mod TreeParts
+pub mod Heights
+pub mod Grounded

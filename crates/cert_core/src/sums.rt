@@ -1,0 +1,96 @@
+ghost use Rattle.std.specs.Prelude.{◌≡◌, ◌<◌, length, OnOk};
+ghost use Rattle.std.specs.List.{AllByRecursion};
+ghost use Rattle.std.specs.Result.{MatchResult};
+ghost use Rattle.rational.specs.Rational.{◌+ℚ◌, ◌*ℚ◌};
+ghost use Rattle.cert_core.specs.Sums.{CanAddProduct, sum_from, CanSum};
+ghost use Rattle.cert_core.specs.Checks.{claim_of, column_terms, constant_start, constant_terms, signed_bound};
+ghost use Rattle.cert_core.specs.Faults.{multipliers_of};
+
+use crate::claim::Claim;
+use crate::program::Rows;
+use exact_lin::{Id, Scalar, Wide};
+
+// sum + y a
+pub(crate) fn add_product<S: Scalar>(sum: S, y: S, a: S) -> Result<S, Wide>
+    ensures { MatchResult result
+        (λ total. CanAddProduct S.limit (S.value sum) (S.value y) (S.value a)
+        × S.value total ≡ S.value sum +ℚ S.value y *ℚ S.value a)
+        (λ _. ¬ CanAddProduct S.limit (S.value sum) (S.value y) (S.value a)) }
+{
+    match y.mul(a) {
+        Ok(product) => sum.add(product),
+        Err(wide) => Err(wide),
+    }
+}
+
+// start + the multipliers times the entries of their rows in the column of v
+pub(crate) fn column_sum<R: Id, V: Id, S: Scalar, P: Rows<R, V, S>>(
+    program: &P,
+    pairs: &[(R, S)],
+    v: V,
+    start: S,
+) -> Result<S, Wide>
+    requires rows { AllByRecursion (λ y. R.number_of y.0 < length (P.program program.now).rows) pairs.now }
+    requires variable { V.number_of v < length (P.program program.now).costs }
+    ensures { let terms = column_terms (P.program program.now) (multipliers_of R.number_of S.value pairs.now) (V.number_of v) in
+        MatchResult result
+        (λ sum. CanSum S.limit (S.value start) terms × S.value sum ≡ sum_from (S.value start) terms)
+        (λ _. ¬ CanSum S.limit (S.value start) terms) }
+{
+    let mut sum = start;
+    for pair in pairs {
+        match add_product(sum, pair.1, program.entry(pair.0, v)) {
+            Ok(total) => sum = total,
+            Err(wide) => return Err(wide),
+        }
+    }
+    Ok(sum)
+}
+
+// Where the constant's sum begins: at 0 for a Farkas row, at the base for a dual row.
+fn constant_start_of<R: Id, V: Id, S: Scalar, P: Rows<R, V, S>>(program: &P, claim: Claim<S>) -> S
+    ensures { S.value result ≡ constant_start (P.program program.now) (claim_of S.value claim) }
+{
+    match claim {
+        Claim::Empty => S::of_int(0),
+        Claim::AtLeast(_) => program.base(),
+    }
+}
+
+// A row's bound, negated where it is taken off the base.
+fn signed_bound_of<R: Id, V: Id, S: Scalar, P: Rows<R, V, S>>(
+    program: &P,
+    claim: Claim<S>,
+    r: R,
+) -> S
+    requires { R.number_of r < length (P.program program.now).rows }
+    ensures { S.value result ≡ signed_bound (P.program program.now) (claim_of S.value claim) (R.number_of r) }
+{
+    match claim {
+        Claim::Empty => program.bound(r),
+        Claim::AtLeast(_) => program.bound(r).neg(),
+    }
+}
+
+// The multipliers times the bounds of their rows: from 0 for a Farkas row, taken off the base for a dual row.
+pub(crate) fn constant_sum<R: Id, V: Id, S: Scalar, P: Rows<R, V, S>>(
+    program: &P,
+    pairs: &[(R, S)],
+    claim: Claim<S>,
+) -> Result<S, Wide>
+    requires { AllByRecursion (λ y. R.number_of y.0 < length (P.program program.now).rows) pairs.now }
+    ensures { let start = constant_start (P.program program.now) (claim_of S.value claim) in
+        let terms = constant_terms (P.program program.now) (claim_of S.value claim) (multipliers_of R.number_of S.value pairs.now) in
+        MatchResult result
+        (λ sum. CanSum S.limit start terms × S.value sum ≡ sum_from start terms)
+        (λ _. ¬ CanSum S.limit start terms) }
+{
+    let mut sum = constant_start_of(program, claim);
+    for pair in pairs {
+        match add_product(sum, pair.1, signed_bound_of(program, claim, pair.0)) {
+            Ok(total) => sum = total,
+            Err(wide) => return Err(wide),
+        }
+    }
+    Ok(sum)
+}
