@@ -1,9 +1,9 @@
 -- How a quotient of digits of any length stands to a fraction.
-use Rattle.std.proofs.Common.{◌≡◌, ℕ, zero, suc, ◌+◌, ◌-◌, ◌*◌, ◌/◌, ◌%◌, ◌^◌, ◌<◌, ◌≤◌, List, length, mul-le-mul_right, mul-le-mul_left, mul-le-mul, div-add-mod', mod-lt, div-lt_iff_lt-mul, refl, sym, ap, ◌∙◌, subst, arith}
+use Rattle.std.proofs.Common.{◌≡◌, ℕ, ◌+◌, ◌-◌, ◌*◌, ◌/◌, ◌%◌, ◌^◌, ◌<◌, ◌≤◌, List, length, mul-le-mul_right, mul-le-mul_left, div-add-mod', ap, arith}
 use Rattle.exact_lin.specs.Reckoning.{wide_limit}
 use Rattle.plan_text.specs.Digits.{number}
 use Rattle.plan_text.specs.Products.{AreDigits, leading, IsNear}
-use Rattle.plan_text.proofs.DigitNumbers.{leading_bounds, leading-all, leading-none}
+use Rattle.plan_text.proofs.DigitNumbers.{leading_bounds}
 use Rattle.plan_text.proofs.Printing.{ten_pos}
 
 pub next_value : (h l p a q b : ℕ) → IsNear h l → p ≤ wide_limit → q ≤ wide_limit → a ≤ 9 → b ≤ 9 →

@@ -1,8 +1,7 @@
 -- The numbers that digits stand for.
-use Rattle.std.proofs.Common.{◌≡◌, ℕ, zero, suc, ◌+◌, ◌-◌, ◌*◌, ◌^◌, ◌<◌, ◌≤◌, Bool, true, false, ◌&&◌, nat_le, List, [], ◌∷◌, ◌++◌, length, get_or, take, drop, pow-suc, take_all, mul-le-mul_right, refl, sym, ap, ◌∙◌, subst, inl, inr, arith, add-one}
+use Rattle.std.proofs.Common.{◌≡◌, ℕ, zero, suc, ◌+◌, ◌-◌, ◌*◌, ◌^◌, ◌<◌, ◌≤◌, true, nat_le, List, [], ◌∷◌, ◌++◌, length, get_or, take, drop, pow-suc, take_all, mul-le-mul_right, refl, ap, ◌∙◌, inl, inr, arith}
 use Rattle.std.proofs.lemmas.List.{drop_more, take_more}
 use Rattle.std.proofs.lemmas.Bool.{and_parts, leb-true, cases_lt}
-use Rattle.std.specs.List.{list_all}
 use Rattle.std.specs.Char.{is_ascii_digit}
 use Rattle.plan_text.specs.Digits.{number_after, number}
 use Rattle.plan_text.specs.Products.{AreDigits, leading}
@@ -60,8 +59,8 @@ leading_step ds total i all fits lt =
     elim (cases_lt i (total - length ds)) [
       | inl before ↦ (0, omega arith, leading-zeros ds total i before)
       | inr from ↦
-        let j = i - (total - length ds) in
-        (get_or ds j 0 - 48, digit_small (get_or ds j 0) (digit_of ds j all (omega arith)), leading-digit ds total i fits from lt)
+          let j = i - (total - length ds) in
+          (get_or ds j 0 - 48, digit_small (get_or ds j 0) (digit_of ds j all (omega arith)), leading-digit ds total i fits from lt)
     ]
 
 pub leading-all : (ds : List ℕ) (total : ℕ) → length ds ≤ total → leading ds total total ≡ number ds

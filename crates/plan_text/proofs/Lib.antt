@@ -3,3 +3,4 @@ pub mod Spelling
 pub mod DigitNumbers
 pub mod Comparing
 pub mod Searching
+pub mod ReadingLemmas

@@ -1,13 +1,12 @@
 -- A fraction between two neighbours has no smaller parts than those of both together.
-use Rattle.std.proofs.Common.{◌≡◌, ℕ, zero, suc, ◌+◌, ◌-◌, ◌*◌, ◌/◌, ◌%◌, ◌^◌, ◌<◌, ◌≤◌, List, length, mul-le-mul_right, mul-le-mul_left, mul_comm, ℤ, pos, ◌*ℤ◌, nat_abs, refl, sym, ap, ◌∙◌, subst, inl, inr, arith}
-use Rattle.std.proofs.Common.{Bool, false, not, ◌==◌, Ordering, Less, Equal, Greater}
+use Rattle.std.proofs.Common.{◌≡◌, ℕ, zero, suc, ◌+◌, ◌-◌, ◌*◌, ◌/◌, ◌<◌, ◌≤◌, mul-le-mul_right, mul-le-mul_left, mul_comm, ℤ, pos, ◌*ℤ◌, nat_abs, refl, sym, ap, ◌∙◌, subst, arith}
+use Rattle.std.proofs.Common.{false, not, ◌==◌, Ordering, Less, Equal, Greater}
 use Rattle.std.specs.Ordering.{ordering_index}
-use Rattle.std.proofs.lemmas.Bool.{cases_lt}
 use Rattle.std.proofs.Math.Nat.{lt_of_mul-lt-mul_right}
-use Rattle.rational.specs.Rational.{ℚ, ratio}
+use Rattle.rational.specs.Rational.{ratio}
 use Rattle.rational.specs.Gcd.{gcd}
-use Rattle.rational.proofs.Fractions.{den_pos, ratio-cross, equal_ratios}
-use Rattle.exact_lin.specs.Reckoning.{wide_limit, Fits}
+use Rattle.rational.proofs.Fractions.{den_pos, ratio-cross}
+use Rattle.exact_lin.specs.Reckoning.{Fits}
 use Rattle.plan_text.specs.Products.{LiesBetween, IsStep}
 
 -- x = y + w with a positive w, in place of y < x
@@ -25,8 +24,8 @@ right_gap n d c e p q below same some =
     let e-same = ap (λ (x : ℕ). e * x) same in
     divided (q * c) (p * e) d (omega arith)
   where
-  scale : (k x y : ℕ) → 0 < k → x < y → k * x < k * y
-  scale k x y some lt = let more = mul-le-mul_left k lt in omega arith
+    scale : (k x y : ℕ) → 0 < k → x < y → k * x < k * y
+    scale k x y some lt = let more = mul-le-mul_left k lt in omega arith
 
 left_gap : (n d a b p q : ℕ) → b * n < a * d → p * d ≡ q * n → 0 < q → p * b < q * a
 left_gap n d a b p q above same some =
@@ -34,8 +33,8 @@ left_gap n d a b p q above same some =
     let b-same = ap (λ (x : ℕ). b * x) same in
     divided (p * b) (q * a) d (omega arith)
   where
-  scale : (k x y : ℕ) → 0 < k → x < y → k * x < k * y
-  scale k x y some lt = let more = mul-le-mul_left k lt in omega arith
+    scale : (k x y : ℕ) → 0 < k → x < y → k * x < k * y
+    scale k x y some lt = let more = mul-le-mul_left k lt in omega arith
 
 -- a step of so many times the parts, and the fraction that it led to
 pub record IsDoubling (x y s t p q u v : ℕ) : Type 0 where
@@ -133,8 +132,8 @@ past_limit n d a b c e limit some h fits =
     let den = fits.denominator in
     (omega (arith, least.0), omega (arith, least.1))
   where
-  pos_same : (x y : ℕ) → pos x ≡ pos y → x ≡ y
-  pos_same x y e = cc
+    pos_same : (x y : ℕ) → pos x ≡ pos y → x ≡ y
+    pos_same x y e = cc
 
 -- orders that are not found to differ are one
 pub same_order : (o side : Ordering) → not (ordering_index o == ordering_index side) ≡ false → o ≡ side

@@ -68,15 +68,12 @@ pub fn compare(p: u128, q: u128, n: &Digits, d: &Digits) -> Ordering
     requires q { q ≤ wide_limit }
     requires n { AreDigits (n.now.front.now ++ n.now.back.now) }
     requires d { AreDigits (d.now.front.now ++ d.now.back.now) }
-    requires n_len { length n.now.front.now + length n.now.back.now < 2 ^ 63 }
-    requires d_len { length d.now.front.now + length d.now.back.now < 2 ^ 63 }
+    requires n_len { length n.now.front.now + length n.now.back.now < 2 ^ 64 }
+    requires d_len { length d.now.front.now + length d.now.back.now < 2 ^ 64 }
     ensures { Compares result p q (number (n.now.front.now ++ n.now.back.now)) (number (d.now.front.now ++ d.now.back.now)) }
 {
     let total = n.len().max(d.len());
-    let mut difference = Difference {
-        high: EVEN,
-        low: 0,
-    };
+    let mut difference = Difference { high: EVEN, low: 0 };
     for i in 0..total {
         difference = next(difference, p, d.aligned(total, i), q, n.aligned(total, i));
         if difference.high >= EVEN + FAR {

@@ -1,7 +1,20 @@
 //! Decimal digits of any length.
 
 ghost use Rattle.std.specs.Prelude.{
-    ◌≡◌, ℕ, suc, ◌+◌, ◌-◌, ◌*◌, ◌^◌, ◌≤◌, ◌<◌, ◌++◌, length, take, slice_index, true,
+  ◌≡◌,
+  ℕ,
+  suc,
+  ◌+◌,
+  ◌-◌,
+  ◌*◌,
+  ◌^◌,
+  ◌≤◌,
+  ◌<◌,
+  ◌++◌,
+  length,
+  take,
+  slice_index,
+  true,
 };
 ghost use Rattle.std.specs.Option.{SomeIff};
 ghost use Rattle.std.specs.List.{list_all};
@@ -42,15 +55,19 @@ impl<'a> Digits<'a> {
     /// The digit at a place, where zeros in front make the digits so many.
     pub fn aligned(&self, total: usize, i: usize) -> u128
         requires digits { AreDigits (self.now.front.now ++ self.now.back.now) }
+        requires len { length self.now.front.now + length self.now.back.now < 2 ^ 64 }
         requires total { length (self.now.front.now ++ self.now.back.now) ≤ total }
-        requires small { total < 2 ^ 63 }
         requires inside { i < total }
         ensures value { leading (self.now.front.now ++ self.now.back.now) total (suc i)
             ≡ 10 * leading (self.now.front.now ++ self.now.back.now) total i + result }
         ensures small { result ≤ 9 }
     {
         let zeros = total - self.len();
-        if i < zeros { 0 } else { digit(self.byte(i - zeros)) }
+        if i < zeros {
+            0
+        } else {
+            digit(self.byte(i - zeros))
+        }
     }
 }
 

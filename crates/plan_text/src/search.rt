@@ -4,7 +4,19 @@
 //! them has smaller parts than the one that their parts add up to.
 
 ghost use Rattle.std.specs.Prelude.{
-    ◌≡◌, ℕ, ◌+◌, ◌*◌, ◌^◌, ◌≤◌, ◌<◌, ◌≢◌, ◌++◌, length, pos, IfSome, IfNone,
+  ◌≡◌,
+  ℕ,
+  ◌+◌,
+  ◌*◌,
+  ◌^◌,
+  ◌≤◌,
+  ◌<◌,
+  ◌≢◌,
+  ◌++◌,
+  length,
+  pos,
+  IfSome,
+  IfNone,
 };
 ghost use Rattle.rational.specs.Rational.{ratio};
 ghost use Rattle.exact_lin.specs.Reckoning.{wide_limit, Fits};
@@ -31,8 +43,8 @@ fn far(side: Ordering, from: Quotient, by: Quotient, n: &Digits, d: &Digits) -> 
         (number (n.now.front.now ++ n.now.back.now)) (number (d.now.front.now ++ d.now.back.now)) }
     requires n { AreDigits (n.now.front.now ++ n.now.back.now) }
     requires d { AreDigits (d.now.front.now ++ d.now.back.now) }
-    requires n_len { length n.now.front.now + length n.now.back.now < 2 ^ 63 }
-    requires d_len { length d.now.front.now + length d.now.back.now < 2 ^ 63 }
+    requires n_len { length n.now.front.now + length n.now.back.now < 2 ^ 64 }
+    requires d_len { length d.now.front.now + length d.now.back.now < 2 ^ 64 }
     ensures step { IsStep from.num from.den by.num by.den result.num result.den }
     ensures on_side { Compares side result.num result.den
         (number (n.now.front.now ++ n.now.back.now)) (number (d.now.front.now ++ d.now.back.now)) }
@@ -53,10 +65,7 @@ fn far(side: Ordering, from: Quotient, by: Quotient, n: &Digits, d: &Digits) -> 
         if compare(num, den, n, d) != side {
             return best;
         }
-        best = Quotient {
-            num,
-            den,
-        };
+        best = Quotient { num, den };
         step = Quotient {
             num: step.num + step.num,
             den: step.den + step.den,
@@ -69,8 +78,8 @@ pub fn lowest_parts(n: &Digits, d: &Digits) -> Option<Quotient>
     requires some { 0 < number (d.now.front.now ++ d.now.back.now) }
     requires n { AreDigits (n.now.front.now ++ n.now.back.now) }
     requires d { AreDigits (d.now.front.now ++ d.now.back.now) }
-    requires n_len { length n.now.front.now + length n.now.back.now < 2 ^ 63 }
-    requires d_len { length d.now.front.now + length d.now.back.now < 2 ^ 63 }
+    requires n_len { length n.now.front.now + length n.now.back.now < 2 ^ 64 }
+    requires d_len { length d.now.front.now + length d.now.back.now < 2 ^ 64 }
     ensures same { IfSome result (λ r. r.num * number (d.now.front.now ++ d.now.back.now)
         ≡ r.den * number (n.now.front.now ++ n.now.back.now)) }
     ensures den { IfSome result (λ r. 0 < r.den) }
@@ -79,14 +88,8 @@ pub fn lowest_parts(n: &Digits, d: &Digits) -> Option<Quotient>
     ensures none { IfNone result (Fits wide_limit (ratio (pos (number (n.now.front.now ++ n.now.back.now)))
         (number (d.now.front.now ++ d.now.back.now))) → ⊥) }
 {
-    let mut above = Quotient {
-        num: 1,
-        den: 0,
-    };
-    let mut below = Quotient {
-        num: 0,
-        den: 1,
-    };
+    let mut above = Quotient { num: 1, den: 0 };
+    let mut below = Quotient { num: 0, den: 1 };
     if compare(below.num, below.den, n, d) == Ordering::Equal {
         return Some(below);
     }
@@ -98,10 +101,7 @@ pub fn lowest_parts(n: &Digits, d: &Digits) -> Option<Quotient>
         }
         match compare(num, den, n, d) {
             Ordering::Equal => {
-                return Some(Quotient {
-                    num,
-                    den,
-                });
+                return Some(Quotient { num, den });
             }
             Ordering::Greater => above = far(Ordering::Greater, above, below, n, d),
             Ordering::Less => below = far(Ordering::Less, below, above, n, d),

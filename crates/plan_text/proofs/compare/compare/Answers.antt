@@ -1,4 +1,4 @@
-use Rattle.std.proofs.Common.{◌≡◌, ℕ, suc, ◌+◌, ◌*◌, ◌<◌, ◌≤◌, ◌++◌, length, arith, add-one}
+use Rattle.std.proofs.Common.{suc, ◌++◌, arith, add-one}
 use Rattle.plan_text.proofs.Comparing.{next_kept, stays_greater}
 use Rattle.plan_text.proofs.compare.compare.Goals as goal
 

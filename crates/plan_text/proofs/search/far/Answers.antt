@@ -1,4 +1,4 @@
-use Rattle.std.proofs.Common.{◌≡◌, ◌+◌, ◌++◌, Ordering, sym, ◌∙◌, subst}
+use Rattle.std.proofs.Common.{◌+◌, ◌++◌, Ordering, sym, ◌∙◌, subst}
 use Rattle.plan_text.specs.Digits.{number}
 use Rattle.plan_text.specs.Products.{Compares}
 use Rattle.plan_text.proofs.Searching.{doubling_next, same_order}

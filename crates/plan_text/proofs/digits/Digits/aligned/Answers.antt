@@ -1,4 +1,4 @@
-use Rattle.std.proofs.Common.{◌≡◌, ℕ, ◌+◌, ◌*◌, ◌-◌, ◌++◌, length, get_or, arith, ap, sym, ◌∙◌, subst}
+use Rattle.std.proofs.Common.{ℕ, ◌+◌, ◌*◌, ◌-◌, ◌++◌, get_or, arith, ap, sym, ◌∙◌}
 use Rattle.plan_text.specs.Products.{leading}
 use Rattle.plan_text.proofs.DigitNumbers.{leading-digit}
 use Rattle.plan_text.proofs.digits.Digits.aligned.Goals as goal
