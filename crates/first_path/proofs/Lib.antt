@@ -9,3 +9,4 @@ pub mod States
 pub mod Verdicts
 pub mod Uniqueness
 pub mod ProblemReading
+pub mod WrittenLines

@@ -8,3 +8,4 @@ pub mod Decimal
 pub mod Leaves
 pub mod DomainText
 pub mod Problem
+pub mod PlanFile

@@ -9,6 +9,7 @@ mod grammar;
 mod laws;
 mod model;
 mod numbers;
+mod plan;
 mod problem;
 mod reckoned;
 mod validator;
