@@ -86,3 +86,8 @@ leading_bounds ds total i (suc more) all fits e =
     let here = ap (λ (x : ℕ). leading ds total i * x) power in
     let there = ap (λ (x : ℕ). (leading ds total i + 1) * x) power in
     (omega (arith, next.0), omega (arith, next.1))
+
+pub digits_drop : (n : ℕ) (ds : List ℕ) → AreDigits ds → AreDigits (drop n ds)
+digits_drop zero ds all = all
+digits_drop (suc n) [] all = all
+digits_drop (suc n) (d ∷ ds) all = digits_drop n ds (and_parts _ _ all).1

@@ -268,7 +268,10 @@ behind_spells text (x ∷ xs) (c ∷ cs) n d joined digits e =
       | inr other ↦
           let e' : cond (c == 47) (pair_if (is_digits cs && nat_lt 0 (number cs)) (number front) (number cs)) None ≡ Some (n, d) = sym (cond-false (c == 46) _ _ other) ∙ e in
           elim (cases_Bool (c == 47)) [
-            | inr neither ↦ let none : None ≡ Some (n, d) = sym (cond-false (c == 47) _ _ neither) ∙ e' in absurd cc
+            | inr neither ↦
+                let nothing : Option (ℕ × ℕ) = None in
+                let none : nothing ≡ Some (n, d) = sym (cond-false (c == 47) _ _ neither) ∙ e' in
+                absurd cc
             | inl slash ↦
                 let mark : c ≡ 47 = eqb-true c 47 slash in
                 let e'' : pair_if (is_digits cs && nat_lt 0 (number cs)) (number front) (number cs) ≡ Some (n, d) = sym (cond-true (c == 47) _ _ slash) ∙ e' in

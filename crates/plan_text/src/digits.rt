@@ -84,6 +84,35 @@ pub fn is_digits(text: &[u8]) -> bool
     !text.is_empty() && all_digits(text)
 }
 
+/// Digits without the zeros in front of them.
+fn without_zeros(text: &[u8]) -> &[u8]
+    requires { AreDigits text.now }
+    ensures number { number result.now ≡ number text.now }
+    ensures digits { AreDigits result.now }
+    ensures len { length result.now ≤ length text.now }
+{
+    let mut zeros = 0;
+    while zeros < text.len() && text[zeros] == b'0' {
+        zeros += 1;
+    }
+    &text[zeros..]
+}
+
+impl<'a> Digits<'a> {
+    /// The same number without zeros in front of the first part, so that a comparison has less to go over.
+    pub fn trimmed(&self) -> Digits<'a>
+        requires { AreDigits (self.now.front.now ++ self.now.back.now) }
+        ensures number { number (result.front.now ++ result.back.now) ≡ number (self.now.front.now ++ self.now.back.now) }
+        ensures digits { AreDigits (result.front.now ++ result.back.now) }
+        ensures len { length result.front.now + length result.back.now ≤ length self.now.front.now + length self.now.back.now }
+    {
+        Digits {
+            front: without_zeros(self.front),
+            back: self.back,
+        }
+    }
+}
+
 /// What a digit stands for.
 fn digit(b: u8) -> u128
     requires { is_ascii_digit b ≡ true }

@@ -96,7 +96,7 @@ fn parts(n: &Digits, d: &Digits) -> Option<Quotient>
 {
     match (small(n), small(d)) {
         (Some(num), Some(den)) => Some(Quotient { num, den }),
-        _ => lowest_parts(n, d),
+        _ => lowest_parts(&n.trimmed(), &d.trimmed()),
     }
 }
 
