@@ -21,3 +21,19 @@ pub use tree_check::{check_leaf, check_tree, tree_fails_at_first_leaf};
 
 #[cfg(test)]
 mod tests;
+
+use exact_lin::{Fraction, Narrow, RowId, TermId, VarId};
+
+// Certificates are checked on threads of their own.
+fn cross_threads() {
+    crosses_threads::<FarkasRow<RowId, Fraction>>();
+    crosses_threads::<FarkasRow<RowId, Narrow>>();
+    crosses_threads::<DualRow<RowId, Fraction>>();
+    crosses_threads::<DualRow<RowId, Narrow>>();
+    crosses_threads::<DualTree<TermId, RowId, Fraction>>();
+    crosses_threads::<CertFault<RowId, VarId>>();
+    crosses_threads::<TreeFault<RowId, VarId>>();
+    crosses_threads::<Way>();
+}
+
+fn crosses_threads<T: Send + Sync>() {}
