@@ -1,12 +1,12 @@
 -- What printed numbers stand for.
-use Rattle.std.proofs.Common.{◌≡◌, ℕ, zero, suc, ◌+◌, ◌-◌, ◌*◌, ◌/◌, ◌%◌, ◌^◌, ◌<◌, ◌≤◌, Bool, true, false, cond, not, ◌&&◌, ◌==◌, nat_lt, ℤ, pos, negsuc, neg_ℤ, nat_abs, Option, Some, None, List, [], ◌∷◌, ◌++◌, length, decimal, pow-suc, length-append, div-add-mod', mod-lt, add-zero, mul_comm, mul-le-mul_right, div-le_self, refl, sym, ap, ap₂, ◌∙◌, subst, inl, inr, arith}
-use Rattle.std.proofs.lemmas.Bool.{and_parts, and_from, cases_Bool, eqb-true, lt-ltb, le-leb, cond-true, cond-false}
+use Rattle.std.proofs.Common.{◌≡◌, ℕ, zero, suc, ◌+◌, ◌-◌, ◌*◌, ◌/◌, ◌%◌, ◌^◌, ◌<◌, ◌≤◌, true, ◌==◌, ℤ, pos, negsuc, nat_abs, Option, Some, None, List, [], ◌∷◌, ◌++◌, length, decimal, pow-suc, length-append, div-add-mod', mod-lt, add-zero, mul-le-mul_right, div-le_self, refl, sym, ap, ap₂, ◌∙◌, subst, inl, inr, arith}
+use Rattle.std.proofs.lemmas.Bool.{and_from, cases_Bool, eqb-true, lt-ltb, le-leb, cond-true, cond-false}
 use Rattle.std.proofs.lemmas.List.Folds.{list_all-append}
 use Rattle.std.proofs.lemmas.Fmt.{decimal_by_steps_wide}
 use Rattle.std.specs.List.{list_all}
 use Rattle.std.specs.Option.{option_map_or}
 use Rattle.std.specs.Char.{is_ascii_digit}
-use Rattle.rational.specs.Rational.{ℚ, ratio, neg_ℚ}
+use Rattle.rational.specs.Rational.{ℚ, ratio}
 use Rattle.rational.proofs.Fractions.{den_pos, equal_ratios, ratio-parts}
 use Rattle.rational.proofs.Field.{neg-ratio}
 use Rattle.exact_lin.specs.Reckoning.{Fits, wide_limit}
@@ -57,14 +57,14 @@ pub decimal_reads : (n : ℕ) → n < 10 ^ 64 → Reads n (decimal n)
 decimal_reads n lt = decimal_by_steps_wide Reads
     (λ d small. record { value = omega arith; some = omega arith; all = and_from _ _ (digit_byte d small) refl })
     (λ d ds big h.
-        let parts = div-add-mod' d 10 in
-        let len = length-append ds ((48 + d % 10) ∷ []) in
-        let value = h.value in
-        record {
-          value = number_after-append 0 ds ((48 + d % 10) ∷ []) ∙ omega arith;
-          some = omega arith;
-          all = all_push ds (d % 10) h.all (omega arith);
-        })
+    let parts = div-add-mod' d 10 in
+    let len = length-append ds ((48 + d % 10) ∷ []) in
+    let value = h.value in
+    record {
+      value = number_after-append 0 ds ((48 + d % 10) ∷ []) ∙ omega arith;
+      some = omega arith;
+      all = all_push ds (d % 10) h.all (omega arith);
+    })
     n lt
 
 reads_digits : (n : ℕ) (ds : List ℕ) → Reads n ds → is_digits ds ≡ true
@@ -83,11 +83,11 @@ enough_from zero first d places low high e = absurd cc
 enough_from (suc more) first d places low high e =
     elim (cases_Bool (10 ^ first % d == 0)) [
       | inl here ↦
-        let e' : Some first ≡ Some places = sym (cond-true (10 ^ first % d == 0) (Some first) (places_from more (suc first) d) here) ∙ e in
-        let same : first ≡ places = cc in
-        subst (λ p. AreEnough p d) same (record { at_least = low; at_most = omega arith; multiple = eqb-true (10 ^ first % d) 0 here })
+          let e' : Some first ≡ Some places = sym (cond-true (10 ^ first % d == 0) (Some first) (places_from more (suc first) d) here) ∙ e in
+          let same : first ≡ places = cc in
+          subst (λ p. AreEnough p d) same (record { at_least = low; at_most = omega arith; multiple = eqb-true (10 ^ first % d) 0 here })
       | inr other ↦
-        enough_from more (suc first) d places (omega arith) (omega arith) (sym (cond-false (10 ^ first % d == 0) (Some first) (places_from more (suc first) d) other) ∙ e)
+          enough_from more (suc first) d places (omega arith) (omega arith) (sym (cond-false (10 ^ first % d == 0) (Some first) (places_from more (suc first) d) other) ∙ e)
     ]
 
 pub enough_of : (d places : ℕ) → places_of d ≡ Some places → AreEnough places d
@@ -108,7 +108,7 @@ decimal_spells n d places some small enough =
     let whole = decimal_reads (n / d) (omega (arith, div-le_self n d)) in
     let back = padded places (rest * e) in
     let value : number (decimal (n / d) ++ back) ≡ n / d * 10 ^ places + rest * e =
-        number_after-append 0 (decimal (n / d)) back ∙ ap (λ m. number_after m back) whole.value ∙ number_after-padded (n / d) places (rest * e) part_below in
+    number_after-append 0 (decimal (n / d)) back ∙ ap (λ m. number_after m back) whole.value ∙ number_after-padded (n / d) places (rest * e) part_below in
     record {
       front = decimal (n / d);
       places = back;
@@ -118,16 +118,16 @@ decimal_spells n d places some small enough =
       few = omega (arith, length-padded places (rest * e), enough.at_most);
       value =
           let same : n * 10 ^ length back ≡ number (decimal (n / d) ++ back) * d =
-              ap (λ p. n * 10 ^ p) (length-padded places (rest * e)) ∙ crossed n d (n / d) rest e (10 ^ places) parts power ∙ ap (λ m. m * d) (sym value) in
+          ap (λ p. n * 10 ^ p) (length-padded places (rest * e)) ∙ crossed n d (n / d) rest e (10 ^ places) parts power ∙ ap (λ m. m * d) (sym value) in
           equal_ratios (pos n) d (pos (number (decimal (n / d) ++ back))) (10 ^ length back) some (ten_pos (length back)) (ap pos same);
     }
   where
-  factor_pos : (e d p : ℕ) → e * d ≡ p → 0 < p → 0 < e
-  factor_pos zero d p h lt = absurd (omega arith)
-  factor_pos (suc e) d p h lt = omega arith
+    factor_pos : (e d p : ℕ) → e * d ≡ p → 0 < p → 0 < e
+    factor_pos zero d p h lt = absurd (omega arith)
+    factor_pos (suc e) d p h lt = omega arith
 
-  crossed : (n d q r e p : ℕ) → q * d + r ≡ n → e * d ≡ p → n * p ≡ (q * p + r * e) * d
-  crossed n d q r e p h k = sym (ap₂ (λ (x y : ℕ). x * y) h k) ∙ (omega arith ∙ ap (λ (x : ℕ). (q * x + r * e) * d) k)
+    crossed : (n d q r e p : ℕ) → q * d + r ≡ n → e * d ≡ p → n * p ≡ (q * p + r * e) * d
+    crossed n d q r e p h k = sym (ap₂ (λ (x y : ℕ). x * y) h k) ∙ (omega arith ∙ ap (λ (x : ℕ). (q * x + r * e) * d) k)
 
 quotient_spells : (n d : ℕ) → 0 < d → n < 10 ^ 64 → d < 10 ^ 64 → SpellsQuotient (quotient_text n d) (ratio (pos n) d)
 quotient_spells n d some small few =

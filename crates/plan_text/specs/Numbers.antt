@@ -1,5 +1,5 @@
 -- The texts of numbers in plans, orderings, certificates and options.
-use Rattle.std.specs.Prelude.{◌≡◌, ℕ, zero, suc, ◌+◌, ◌*◌, ◌/◌, ◌%◌, ◌^◌, ◌≤◌, ◌<◌, ◌⊎◌, ℤ, pos, negsuc, true, List, [], ◌∷◌, ◌++◌, length, decimal, Option, Some, None, if◌then◌else◌, ◌==◌}
+use Rattle.std.specs.Prelude.{◌≡◌, ℕ, zero, suc, ◌*◌, ◌/◌, ◌%◌, ◌^◌, ◌≤◌, ◌<◌, ◌⊎◌, ℤ, pos, negsuc, true, List, [], ◌∷◌, ◌++◌, length, decimal, Option, Some, None, if◌then◌else◌, ◌==◌}
 use Rattle.std.specs.Option.{option_map_or}
 use lib.IntN.{nat_abs}
 use Rattle.rational.specs.Rational.{ℚ, ratio, neg_ℚ}

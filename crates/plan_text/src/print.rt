@@ -1,7 +1,26 @@
 //! How a number is printed.
 
 ghost use Rattle.std.specs.Prelude.{
-    ◌≡◌, ℕ, ◌+◌, ◌*◌, ◌/◌, ◌%◌, ◌^◌, ◌<◌, ◌≤◌, ◌++◌, ◌∷◌, [], decimal, Some, None, OnOk, IfOk, IfSome, IfNone, nat_abs,
+  ◌≡◌,
+  ℕ,
+  ◌+◌,
+  ◌*◌,
+  ◌/◌,
+  ◌%◌,
+  ◌^◌,
+  ◌<◌,
+  ◌≤◌,
+  ◌++◌,
+  ◌∷◌,
+  [],
+  decimal,
+  Some,
+  None,
+  OnOk,
+  IfOk,
+  IfSome,
+  IfNone,
+  nat_abs,
 };
 ghost use Rattle.exact_lin.specs.Reckoning.{Fits, wide_limit};
 ghost use Rattle.plan_text.specs.Digits.{padded};
@@ -13,6 +32,7 @@ use std::alloc::{AllocError, Global};
 
 /// The fewest and the most places of a decimal.
 const MIN_PLACES: u32 = 3;
+
 const MAX_PLACES: u32 = 18;
 
 /// How many places a fraction over `den` needs as a decimal, and the power of ten for them.
@@ -52,7 +72,13 @@ fn push_places(text: &mut Vec<u8>, places: u32, n: u128) -> Result<(), AllocErro
     Ok(())
 }
 
-fn push_decimal(text: &mut Vec<u8>, n: u128, den: u128, places: u32, power: u128) -> Result<(), AllocError>
+fn push_decimal(
+    text: &mut Vec<u8>,
+    n: u128,
+    den: u128,
+    places: u32,
+    power: u128,
+) -> Result<(), AllocError>
     requires some { 0 < den }
     requires power { power ≡ 10 ^ places }
     requires few { power ≤ 10 ^ 18 }

@@ -1,5 +1,4 @@
-use Rattle.std.proofs.Common.{◌≡◌, ◌^◌, ◌%◌, sym, ap, ◌∙◌, arith, eq-eqb, ne_eqb, pow-suc, add-one, subst, refl, ◌*◌}
-use Rattle.plan_text.specs.Numbers.{places_from, places_of}
+use Rattle.std.proofs.Common.{◌%◌, sym, ap, ◌∙◌, arith, eq-eqb, ne_eqb, pow-suc, add-one, refl, ◌*◌}
 use Rattle.plan_text.proofs.Printing.{places_start, places_found, places_on, places_none, ten_le}
 use Rattle.plan_text.proofs.print.places.Goals as goal
 

@@ -1,0 +1,113 @@
+//! Decimal digits of any length.
+
+ghost use Rattle.std.specs.Prelude.{
+  ◌≡◌,
+  ℕ,
+  suc,
+  ◌+◌,
+  ◌-◌,
+  ◌*◌,
+  ◌^◌,
+  ◌≤◌,
+  ◌<◌,
+  ◌++◌,
+  length,
+  take,
+  slice_index,
+  true,
+};
+ghost use Rattle.std.specs.Option.{SomeIff};
+ghost use Rattle.std.specs.List.{list_all};
+ghost use Rattle.std.specs.Char.{is_ascii_digit};
+ghost use Rattle.exact_lin.specs.Reckoning.{wide_limit};
+ghost use Rattle.plan_text.specs.Digits.{is_digits, number, number_after};
+ghost use Rattle.plan_text.specs.Products.{AreDigits, leading};
+
+/// The largest part of a fraction.
+pub const LIMIT: u128 = 170141183460469231731687303715884105727;
+
+/// The digits of two texts, one behind the other.
+#[derive(Clone, Copy)]
+pub struct Digits<'a> {
+    pub front: &'a [u8],
+    pub back: &'a [u8],
+}
+
+impl<'a> Digits<'a> {
+    pub fn len(&self) -> usize
+        requires { length self.now.front.now + length self.now.back.now < 2 ^ 64 }
+        ensures { result ≡ length (self.now.front.now ++ self.now.back.now) }
+    {
+        self.front.len() + self.back.len()
+    }
+
+    fn byte(&self, i: usize) -> u8
+        requires { i < length (self.now.front.now ++ self.now.back.now) }
+        ensures { result ≡ slice_index (self.now.front.now ++ self.now.back.now) i }
+    {
+        if i < self.front.len() {
+            self.front[i]
+        } else {
+            self.back[i - self.front.len()]
+        }
+    }
+
+    /// The digit at a place, where zeros in front make the digits so many.
+    pub fn aligned(&self, total: usize, i: usize) -> u128
+        requires digits { AreDigits (self.now.front.now ++ self.now.back.now) }
+        requires len { length self.now.front.now + length self.now.back.now < 2 ^ 64 }
+        requires total { length (self.now.front.now ++ self.now.back.now) ≤ total }
+        requires inside { i < total }
+        ensures value { leading (self.now.front.now ++ self.now.back.now) total (suc i)
+            ≡ 10 * leading (self.now.front.now ++ self.now.back.now) total i + result }
+        ensures small { result ≤ 9 }
+    {
+        let zeros = total - self.len();
+        if i < zeros {
+            0
+        } else {
+            digit(self.byte(i - zeros))
+        }
+    }
+}
+
+fn all_digits(text: &[u8]) -> bool
+    ensures { result ≡ list_all is_ascii_digit text.now }
+{
+    text.iter().all(|b| b.is_ascii_digit())
+}
+
+/// Whether a text is one digit or more.
+pub fn is_digits(text: &[u8]) -> bool
+    ensures { result ≡ is_digits text.now }
+{
+    !text.is_empty() && all_digits(text)
+}
+
+/// What a digit stands for.
+fn digit(b: u8) -> u128
+    requires { is_ascii_digit b ≡ true }
+    ensures value { result ≡ b - 48 }
+    ensures small { result ≤ 9 }
+{
+    (b - b'0') as u128
+}
+
+/// The number that digits stand for behind another, where it is not past the limit.
+pub fn small_after(start: u128, text: &[u8]) -> Option<u128>
+    requires start { start ≤ wide_limit }
+    requires digits { AreDigits text.now }
+    ensures { SomeIff result (number_after start text.now ≤ wide_limit) (number_after start text.now) }
+{
+    let mut n = start;
+    for b in text {
+        if n > LIMIT / 10 {
+            return None;
+        }
+        n = 10 * n + digit(*b);
+        if n > LIMIT {
+            return None;
+        }
+    }
+    Some(n)
+}

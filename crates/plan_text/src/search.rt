@@ -1,0 +1,110 @@
+//! The parts of a quotient of digits of any length, in lowest terms and in no memory.
+//!
+//! The search goes down the tree of Stern and Brocot: the quotient lies between two neighbours, and no fraction between
+//! them has smaller parts than the one that their parts add up to.
+
+ghost use Rattle.std.specs.Prelude.{
+  ◌≡◌,
+  ℕ,
+  ◌+◌,
+  ◌*◌,
+  ◌^◌,
+  ◌≤◌,
+  ◌<◌,
+  ◌≢◌,
+  ◌++◌,
+  length,
+  pos,
+  IfSome,
+  IfNone,
+};
+ghost use Rattle.rational.specs.Rational.{ratio};
+ghost use Rattle.exact_lin.specs.Reckoning.{wide_limit, Fits};
+ghost use Rattle.plan_text.specs.Digits.{number};
+ghost use Rattle.plan_text.specs.Products.{AreDigits, Compares, LiesBetween, IsStep};
+
+use crate::compare::compare;
+use crate::digits::{Digits, LIMIT};
+use std::cmp::Ordering;
+
+/// A fraction.
+#[derive(Clone, Copy)]
+pub struct Quotient {
+    pub num: u128,
+    pub den: u128,
+}
+
+/// Goes on from one fraction by parts of another, in steps that double, as long as it stays on one side of n / d.
+fn far(side: Ordering, from: Quotient, by: Quotient, n: &Digits, d: &Digits) -> Quotient
+    requires num { from.num + by.num ≤ wide_limit }
+    requires den { from.den + by.den ≤ wide_limit }
+    requires some { 0 < by.num + by.den }
+    requires on_side { Compares side (from.num + by.num) (from.den + by.den)
+        (number (n.now.front.now ++ n.now.back.now)) (number (d.now.front.now ++ d.now.back.now)) }
+    requires n { AreDigits (n.now.front.now ++ n.now.back.now) }
+    requires d { AreDigits (d.now.front.now ++ d.now.back.now) }
+    requires n_len { length n.now.front.now + length n.now.back.now < 2 ^ 64 }
+    requires d_len { length d.now.front.now + length d.now.back.now < 2 ^ 64 }
+    ensures step { IsStep from.num from.den by.num by.den result.num result.den }
+    ensures on_side { Compares side result.num result.den
+        (number (n.now.front.now ++ n.now.back.now)) (number (d.now.front.now ++ d.now.back.now)) }
+    ensures num { result.num ≤ wide_limit }
+    ensures den { result.den ≤ wide_limit }
+{
+    let mut best = Quotient {
+        num: from.num + by.num,
+        den: from.den + by.den,
+    };
+    let mut step = by;
+    'doubling: loop {
+        let num = best.num + step.num;
+        let den = best.den + step.den;
+        if num > LIMIT || den > LIMIT {
+            return best;
+        }
+        if compare(num, den, n, d) != side {
+            return best;
+        }
+        best = Quotient { num, den };
+        step = Quotient {
+            num: step.num + step.num,
+            den: step.den + step.den,
+        };
+    }
+}
+
+/// The parts of n / d in lowest terms, where they are not past the limit.
+pub fn lowest_parts(n: &Digits, d: &Digits) -> Option<Quotient>
+    requires some { 0 < number (d.now.front.now ++ d.now.back.now) }
+    requires n { AreDigits (n.now.front.now ++ n.now.back.now) }
+    requires d { AreDigits (d.now.front.now ++ d.now.back.now) }
+    requires n_len { length n.now.front.now + length n.now.back.now < 2 ^ 64 }
+    requires d_len { length d.now.front.now + length d.now.back.now < 2 ^ 64 }
+    ensures same { IfSome result (λ r. r.num * number (d.now.front.now ++ d.now.back.now)
+        ≡ r.den * number (n.now.front.now ++ n.now.back.now)) }
+    ensures den { IfSome result (λ r. 0 < r.den) }
+    ensures num_fits { IfSome result (λ r. r.num ≤ wide_limit) }
+    ensures den_fits { IfSome result (λ r. r.den ≤ wide_limit) }
+    ensures none { IfNone result (Fits wide_limit (ratio (pos (number (n.now.front.now ++ n.now.back.now)))
+        (number (d.now.front.now ++ d.now.back.now))) → ⊥) }
+{
+    let mut above = Quotient { num: 1, den: 0 };
+    let mut below = Quotient { num: 0, den: 1 };
+    if compare(below.num, below.den, n, d) == Ordering::Equal {
+        return Some(below);
+    }
+    'descent: loop {
+        let num = above.num + below.num;
+        let den = above.den + below.den;
+        if num > LIMIT || den > LIMIT {
+            return None;
+        }
+        match compare(num, den, n, d) {
+            Ordering::Equal => {
+                return Some(Quotient { num, den });
+            }
+            Ordering::Greater => above = far(Ordering::Greater, above, below, n, d),
+            Ordering::Less => below = far(Ordering::Less, below, above, n, d),
+        }
+    }
+}
