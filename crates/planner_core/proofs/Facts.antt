@@ -6,8 +6,9 @@ use Rattle.outside.specs.declared.desk.Fetch.TheVariants.{Failed, Long, Memory}
 use Rattle.planner_core.specs.declared.status.Status.{Status}
 use Rattle.planner_core.specs.declared.status.Status.TheVariants.{Usage, ReadFault, WriteFault, NoMemory}
 use Rattle.planner_core.specs.Replies.{Said, IsAnswerStatus, read_fault, too_long}
-use Rattle.planner_core.specs.Works.{Meanings, SayAnswers, Work, Ends, Asks, Request, Validate, work_of, work_or_usage, work_of_request, files_of_request, file_words, request_of}
+use Rattle.planner_core.specs.Works.{Work, Ends, Asks, Request, Validate, work_of, work_or_usage, work_of_request, files_of_request, file_words, request_of}
 use Rattle.planner_core.specs.Sessions.{IsReply, desk_end, LedTo}
+use Rattle.planner_core.proofs.Answered.{validates_status}
 
 -- each fetch asks for one of these names, and each reply has the status of an answer
 abbrev pub IsFine : List (List ℕ) → Work → Type 0
@@ -33,9 +34,9 @@ fits names (Asks role name next) (Err (Long count) ∷ answers) desk said fine e
     inl (subst P same tt, refl)
 fits names (Asks role name next) (Err Memory ∷ answers) desk said fine e = cc
 
-fine_request : (meanings : Meanings) → SayAnswers meanings → (request : Request) → IsFine (files_of_request request) (work_of_request meanings request)
-fine_request meanings answers (Validate domain problem plan) =
-    ((0, lit< tt, refl), λ domain_text. ((1, lit< tt, refl), λ problem_text. ((2, lit< tt, refl), λ plan_text. answers.validation domain_text problem_text plan_text)))
+fine_request : (request : Request) → IsFine (files_of_request request) (work_of_request request)
+fine_request (Validate domain problem plan) =
+    ((0, lit< tt, refl), λ domain_text. ((1, lit< tt, refl), λ problem_text. ((2, lit< tt, refl), λ plan_text. λ said is. validates_status domain_text problem_text plan_text said is)))
 
 -- what follows for the clauses of a run
 pub record Facts (request : Option Request) (status : Status) (old new : DeskView) : Type 0 where
@@ -69,8 +70,8 @@ facts_fit request status old new (inr p) = record {
   not_no_memory = λ e. cc;
 }
 
-facts : (meanings : Meanings) → SayAnswers meanings → (request : Option Request) (answers : List Answer) (old new : DeskView) (said : Said) → IsReply (work_or_usage meanings request) answers said → new ≡ desk_end (work_or_usage meanings request) answers old → Facts request said.status old new
-facts meanings say None answers old new said e left =
+facts : (request : Option Request) (answers : List Answer) (old new : DeskView) (said : Said) → IsReply (work_or_usage request) answers said → new ≡ desk_end (work_or_usage request) answers old → Facts request said.status old new
+facts None answers old new said e left =
     let status : said.status ≡ Usage = ap (λ (s : Said). s.status) e in
     let still : new.faults ≡ old.faults = ap (λ (d : DeskView). d.faults) left in
     record {
@@ -82,13 +83,13 @@ facts meanings say None answers old new said e left =
       not_write_fault = λ e. cc;
       not_no_memory = λ e. cc;
     }
-facts meanings say (Some request) answers old new said e left =
+facts (Some request) answers old new said e left =
     let P : DeskView → Type 0 = λ d. FitsDesk (files_of_request request) old d said.status in
-    facts_fit request said.status old new (subst P (sym left) (fits (files_of_request request) (work_of_request meanings request) answers old said (fine_request meanings say request) e))
+    facts_fit request said.status old new (subst P (sym left) (fits (files_of_request request) (work_of_request request) answers old said (fine_request request) e))
 
 -- of a run that led to a reply
-pub facts_of : (meanings : Meanings) → SayAnswers meanings → (words : List (List ℕ)) (old new : DeskView) (said : Said) → LedTo (work_of meanings words) old new said → Facts (request_of words) said.status old new
-facts_of meanings say words old new said led = facts meanings say (request_of words) led.answers old new said led.replied led.left
+pub facts_of : (words : List (List ℕ)) (old new : DeskView) (said : Said) → LedTo (work_of words) old new said → Facts (request_of words) said.status old new
+facts_of words old new said led = facts (request_of words) led.answers old new said led.replied led.left
 
 -- a piece that was taken leaves the count of faults
 pub same_faults : (old new : SinkView) (piece : List ℕ) → new ≡ sink_with old piece → new.faults ≡ old.faults

@@ -1,10 +1,10 @@
 -- A line is spelled by the fields that a scan finds, and a scan finds the fields of each line that has some.
-use Rattle.std.proofs.Common.{◌≡◌, ℕ, ◌<◌, Bool, true, false, cond, ◌&&◌, not, List, [], ◌∷◌, ◌++◌, length, nat_eq, nat_lt, Option, Some, None, refl, sym, ap, ◌∙◌, subst, arith, append_assoc, append-nil}
+use Rattle.std.proofs.Common.{◌≡◌, ℕ, Bool, true, false, cond, ◌&&◌, not, List, [], ◌∷◌, ◌++◌, length, nat_lt, Option, Some, None, refl, sym, ap, ◌∙◌, subst, arith}
 use Rattle.std.proofs.lemmas.Bool.{and_parts, and_from}
 use Rattle.std.proofs.lemmas.Bool.Decides.{nat_tests}
 use Rattle.std.specs.Option.{option_map, option_and_then, unwrap_or}
 use Rattle.std.specs.List.{list_all}
-use Rattle.planner_core.specs.PlanFile.{is_blank, is_mark, is_run_byte, IsRun, AreBlanks, SpelledBy, Fields, Says, tokens_of}
+use Rattle.planner_core.specs.PlanFile.{is_blank, is_mark, is_run_byte, IsRun, AreBlanks, SpelledBy, Fields, Says}
 use Rattle.planner_core.specs.Scanning.{skip_blanks, run_in_front, skip_run, behind, behind_mark, some_run, next_run, closed_by, enclosed_run, with_duration, with_name, with_start, fields_of}
 use Rattle.planner_core.proofs.Scans.{run_splits}
 

@@ -1,5 +1,6 @@
 pub mod Replies
 pub mod Validations
+pub mod Answers
 pub mod PlanFile
 pub mod Scanning
 pub mod Seen

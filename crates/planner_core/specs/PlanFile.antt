@@ -1,6 +1,11 @@
 -- The lines of a plan file, and how a line is spelled.
-use Rattle.std.specs.Prelude.{◌≡◌, ℕ, suc, ◌+◌, Bool, true, false, not, ◌&&◌, ◌||◌, ◌==◌, List, [], ◌∷◌, ◌++◌, length, nat_lt, if◌then◌else◌}
+use Rattle.std.specs.Prelude.{◌≡◌, ℕ, ◌+◌, Bool, IsTrue, true, not, ◌&&◌, ◌||◌, ◌==◌, List, [], ◌∷◌, ◌++◌, length, nat_lt, if◌then◌else◌}
 use Rattle.std.specs.List.{list_all}
+use Rattle.rational.specs.Rational.{ℚ}
+use Rattle.exact_lin.specs.Reckoning.{wide_limit, Fits}
+use Rattle.plan_text.specs.Numbers.{Spells}
+use Rattle.first_path.specs.Grammar.{same_word}
+use Rattle.first_path.specs.declared.model.PlanLine.{PlanLine}
 
 -- a space, a tab or a carriage return
 abbrev pub is_blank : ℕ → Bool
@@ -71,3 +76,21 @@ written_from number (line ∷ lines) =
 -- the same for a text, whose lines count from 1
 abbrev pub written_lines : List ℕ → List (ℕ × List ℕ)
 written_lines text = written_from 1 (lines_of text)
+
+-- the bytes stand for this number, whose parts in lowest terms do not pass 128 bits
+abbrev pub StandsFor : List ℕ → ℚ → Type 0
+StandsFor bytes q = Spells bytes q × Fits wide_limit q
+
+-- the fields name the action and tell this start and duration of it
+pub record TellsLine (action : List ℕ) (fields : Fields) (line : PlanLine) : Type 0 where
+  pub named : IsTrue (same_word fields.name action)
+  pub starts : StandsFor fields.start line.start
+  pub lasts : StandsFor fields.duration line.duration
+
+-- The only line of the file that isn't blank has this number, and it starts the action at this time for this long.
+pub record IsPlanFile (action text : List ℕ) (number : ℕ) (line : PlanLine) : Type 0 where
+  pub written : List ℕ
+  pub fields : Fields
+  pub only : written_lines text ≡ (number, written) ∷ []
+  pub says : Says written fields
+  pub tells : TellsLine action fields line

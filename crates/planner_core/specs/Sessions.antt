@@ -8,7 +8,7 @@ use Rattle.planner_core.specs.declared.status.Status.{Status}
 use Rattle.planner_core.specs.declared.status.Status.TheVariants.{WriteFault}
 use Rattle.planner_core.specs.declared.reply.Role.{Role}
 use Rattle.planner_core.specs.Replies.{Said, read_fault, too_long}
-use Rattle.planner_core.specs.Works.{Meanings, Work, Ends, Asks, work_of}
+use Rattle.planner_core.specs.Works.{Work, Ends, Asks, work_of}
 
 -- There is one answer for each fetch of the work, up to the first that hands over no bytes; each is one that the desk may give.
 abbrev pub AreAnswers : Option Files → Work → List Answer → Type 0
@@ -58,9 +58,9 @@ Delivered said status old new =
     ⊎ ((status ≡ WriteFault) × ((count : ℕ) × (new ≡ sink_failed old said.text count)))
 
 -- A run to which memory was not refused: the words, the desk and the sink before and after, and the status.
-pub record Ran (meanings : Meanings) (words : List (List ℕ)) (desk desk_now : DeskView) (sink sink_now : SinkView) (status : Status) : Type 0 where
+pub record Ran (words : List (List ℕ)) (desk desk_now : DeskView) (sink sink_now : SinkView) (status : Status) : Type 0 where
   pub said : Said
   -- some answers of the fetches lead to this reply
-  pub led : LedTo (work_of meanings words) desk desk_now said
+  pub led : LedTo (work_of words) desk desk_now said
   -- and it was written, or a prefix of it
   pub delivered : Delivered said status sink sink_now

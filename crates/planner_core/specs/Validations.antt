@@ -10,7 +10,7 @@ use Rattle.first_path.specs.declared.model.Undefined.TheVariants.{Line, Happenin
 use Rattle.planner_core.specs.declared.status.Status.TheVariants.{Done, Negative, Refused, Budget}
 use Rattle.planner_core.specs.declared.reply.Role.{Role}
 use Rattle.planner_core.specs.declared.reply.Role.TheVariants.{Domain, Problem, Plan}
-use Rattle.planner_core.specs.Replies.{Said, role_word}
+use Rattle.planner_core.specs.Replies.{Said}
 
 -- why the plan is not valid; its line has this number in the file
 abbrev pub reason_text : ℕ → Reason → List ℕ

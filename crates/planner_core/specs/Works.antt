@@ -3,7 +3,8 @@ use Rattle.std.specs.Prelude.{◌≡◌, ℕ, List, [], ◌∷◌, if◌then◌e
 use Rattle.std.specs.Str.{bytes_eq}
 use Rattle.planner_core.specs.declared.reply.Role.{Role}
 use Rattle.planner_core.specs.declared.reply.Role.TheVariants.{Domain, Problem, Plan}
-use Rattle.planner_core.specs.Replies.{Said, usage, IsAnswerStatus}
+use Rattle.planner_core.specs.Replies.{Said, usage}
+use Rattle.planner_core.specs.Answers.{Validates}
 
 -- a command that is accepted, with the names of its files
 pub data Request : Type 0 where
@@ -28,33 +29,25 @@ abbrev pub file_words : Option Request → List (List ℕ)
 file_words None = []
 file_words (Some request) = files_of_request request
 
--- what the replies of a planner may say, command by command, of the texts of the files
-pub record Meanings : Type 1 where
-  pub validation : (domain problem plan : List ℕ) → Said → Type 0
-
--- each such reply has the status of an answer to texts
-pub record SayAnswers (meanings : Meanings) : Type 0 where
-  pub validation : (domain problem plan : List ℕ) (said : Said) → meanings.validation domain problem plan said → IsAnswerStatus said.status
-
 -- The work ends with a reply that has this property, or a file is asked for and its bytes say how to go on.
 pub data Work : Type 1 where
   Ends : (Said → Type 0) → Work
   Asks : Role → List ℕ → (List ℕ → Work) → Work
 
 -- `validate` asks for the domain, the problem and the plan, and ends with a reply to their texts
-abbrev pub validate_work : Meanings → List ℕ → List ℕ → List ℕ → Work
-validate_work meanings domain problem plan =
-    Asks Domain domain (λ domain_text. Asks Problem problem (λ problem_text. Asks Plan plan (λ plan_text. Ends (meanings.validation domain_text problem_text plan_text))))
+abbrev pub validate_work : List ℕ → List ℕ → List ℕ → Work
+validate_work domain problem plan =
+    Asks Domain domain (λ domain_text. Asks Problem problem (λ problem_text. Asks Plan plan (λ plan_text. Ends (Validates domain_text problem_text plan_text))))
 
 -- the work of each command
-abbrev pub work_of_request : Meanings → Request → Work
-work_of_request meanings (Validate domain problem plan) = validate_work meanings domain problem plan
+abbrev pub work_of_request : Request → Work
+work_of_request (Validate domain problem plan) = validate_work domain problem plan
 
 -- words that are not accepted are answered by the usage line at once
-abbrev pub work_or_usage : Meanings → Option Request → Work
-work_or_usage meanings None = Ends (λ said. said ≡ usage)
-work_or_usage meanings (Some request) = work_of_request meanings request
+abbrev pub work_or_usage : Option Request → Work
+work_or_usage None = Ends (λ said. said ≡ usage)
+work_or_usage (Some request) = work_of_request request
 
 -- the work that the words ask for
-abbrev pub work_of : Meanings → List (List ℕ) → Work
-work_of meanings words = work_or_usage meanings (request_of words)
+abbrev pub work_of : List (List ℕ) → Work
+work_of words = work_or_usage (request_of words)

@@ -3,16 +3,13 @@
 
 mod fetching;
 mod plan_file;
-mod planner;
 mod reply;
 mod session;
 mod status;
 mod validation;
 mod words;
 
-pub use planner::Planner;
-pub use reply::Reply;
-pub use session::run_over;
+pub use session::run;
 pub use status::Status;
 
 #[cfg(test)]

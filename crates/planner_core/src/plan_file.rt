@@ -2,9 +2,13 @@
 
 ghost use Rattle.std.specs.Prelude.{◌≡◌, ◌++◌, ◌≢◌, ℕ, ◌+◌, ◌-◌, ◌<◌, ◌^◌, List, ◌∷◌, [], length, option_map, MatchOption};
 ghost use Rattle.std.specs.List.{list_all};
-ghost use Rattle.planner_core.specs.PlanFile.{is_blank, is_run_byte, before, lines_of, written_from, written_lines};
+ghost use Rattle.first_path.specs.declared.model.PlanLine.{PlanLine};
+ghost use Rattle.planner_core.specs.PlanFile.{is_blank, is_run_byte, before, lines_of, written_from, written_lines, TellsLine, IsPlanFile};
 ghost use Rattle.planner_core.specs.Scanning.{skip_blanks, skip_run, run_in_front, skip_to, behind_mark, next_run, enclosed_run, fields_of, behind_line};
 ghost use Rattle.planner_core.specs.Seen.{fields_seen, FindsWritten};
+
+use first_path::PlanLine;
+use plan_text::read_number;
 
 fn is_blank(b: u8) -> bool
     ensures { result ≡ is_blank b }
@@ -193,4 +197,27 @@ fn only_written(text: &[u8]) -> Option<Written<'_>>
         None => Some(first),
         Some(_) => None,
     }
+}
+
+// The start of the action that the fields tell, where they name it.
+fn line_of(fields: LineFields<'_>, action: &[u8]) -> Option<PlanLine>
+    ensures { MatchOption result ((line : PlanLine) → ¬ (TellsLine action.now (fields_seen fields.entry) line)) (TellsLine action.now (fields_seen fields.entry)) }
+{
+    if !fields.name.eq_ignore_ascii_case(action) {
+        return None;
+    }
+    let start = read_number(fields.start)?;
+    let duration = read_number(fields.duration)?;
+    Some(PlanLine { start, duration })
+}
+
+/// Reads a plan file with one line that starts this action: the line's number, and what it says.
+pub fn read_plan_file(text: &[u8], action: &[u8]) -> Option<(u32, PlanLine)>
+    requires { length text.now < 2 ^ 32 - 1 }
+    ensures { MatchOption result ((number : ℕ) (line : PlanLine) → ¬ (IsPlanFile action.now text.now number line))
+        (λ found. IsPlanFile action.now text.now found.0 found.1) }
+{
+    let only = only_written(text)?;
+    let fields = read_fields(only.line)?;
+    Some((only.number, line_of(fields, action)?))
 }

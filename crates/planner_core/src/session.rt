@@ -5,28 +5,25 @@ ghost use Rattle.planner_core.specs.Sessions.{Came, Ran};
 ghost use Rattle.planner_core.specs.Stops.{outcome, reply_said};
 
 use crate::fetching::{Stop, fetch_file};
-use crate::planner::Planner;
 use crate::reply::{Reply, Role, too_long_reply, usage_reply};
 use crate::status::Status;
+use crate::validation::validation_reply;
 use crate::words::{Command, read_words};
 use exact_lin::NoMemory;
 use outside::{Desk, Sink};
 use std::alloc::Global;
 
-/// Runs the program over a planner: from the words of the command line, without the program's
-/// name, to the reply in the sink, which goes out whole in one put.
-pub fn run_over<P: Planner, D: Desk, K: Sink>(
-    alloc: Global,
-    planner: &P,
-    words: &[String],
-    desk: &mut D,
-    sink: &mut K,
-) -> Status
+/// Runs the program: from the words of the command line, without the program's name, to the reply
+/// in the sink, which goes out whole in one put.
+///
+/// So far `validate DOMAIN PROBLEM PLAN` is the one command, and reads tasks of one fluent and one
+/// durative action.
+pub fn run<D: Desk, K: Sink>(alloc: Global, words: &[String], desk: &mut D, sink: &mut K) -> Status
     requires desk_count { (D.told desk.old).faults < 2 ^ 64 - 1 }
     requires sink_count { (K.told sink.old).puts < 2 ^ 64 - 1 }
 
     // Some answers of the fetches lead to a reply. It was written whole, or the sink failed.
-    ensures ran { result ≢ Status.NoMemory → Ran (P.meanings planner.now) (texts words.now)
+    ensures ran { result ≢ Status.NoMemory → Ran (texts words.now)
         (D.told desk.old) (D.told desk.new) (K.told sink.old) (K.told sink.new) result }
 
     // Want of memory leaves the outside as it was.
@@ -44,7 +41,7 @@ pub fn run_over<P: Planner, D: Desk, K: Sink>(
         → Contains (file_words (request_of (texts words.now))) (D.told desk.new).fault_name }
     ensures write_fault { (result ≡ Status.WriteFault) ↔ ((K.told sink.old).faults < (K.told sink.new).faults) }
 {
-    let Ok(reply) = reply_to(alloc, planner, words, desk) else {
+    let Ok(reply) = reply_to(alloc, words, desk) else {
         return Status::NoMemory;
     };
     match sink.put(reply.text()) {
@@ -54,16 +51,11 @@ pub fn run_over<P: Planner, D: Desk, K: Sink>(
 }
 
 // The reply to the words. Where a fetch failed it says so, and want of memory leaves no fault.
-fn reply_to<P: Planner, D: Desk>(
-    alloc: Global,
-    planner: &P,
-    words: &[String],
-    desk: &mut D,
-) -> Result<Reply, NoMemory>
+fn reply_to<D: Desk>(alloc: Global, words: &[String], desk: &mut D) -> Result<Reply, NoMemory>
     requires { (D.told desk.old).faults < 2 ^ 64 - 1 }
-    ensures { Came (work_of (P.meanings planner.now) (texts words.now)) (D.told desk.old) (D.told desk.new) (reply_said result) }
+    ensures { Came (work_of (texts words.now)) (D.told desk.old) (D.told desk.new) (reply_said result) }
 {
-    match perform(alloc, planner, words, desk) {
+    match perform(alloc, words, desk) {
         Ok(reply) => Ok(reply),
         Err(Stop::Fault(text)) => Ok(Reply::new(Status::ReadFault, text)),
         Err(Stop::Long(role, count)) => too_long_reply(alloc, role, count),
@@ -72,14 +64,9 @@ fn reply_to<P: Planner, D: Desk>(
 }
 
 // Does what the words ask for.
-fn perform<P: Planner, D: Desk>(
-    alloc: Global,
-    planner: &P,
-    words: &[String],
-    desk: &mut D,
-) -> Result<Reply, Stop>
+fn perform<D: Desk>(alloc: Global, words: &[String], desk: &mut D) -> Result<Reply, Stop>
     requires { (D.told desk.old).faults < 2 ^ 64 - 1 }
-    ensures { Came (work_of (P.meanings planner.now) (texts words.now)) (D.told desk.old) (D.told desk.new) (outcome result) }
+    ensures { Came (work_of (texts words.now)) (D.told desk.old) (D.told desk.new) (outcome result) }
 {
     match read_words(words) {
         None => Ok(usage_reply(alloc)?),
@@ -89,24 +76,23 @@ fn perform<P: Planner, D: Desk>(
                 problem,
                 plan,
             },
-        ) => validate(alloc, planner, desk, domain, problem, plan),
+        ) => validate(alloc, desk, domain, problem, plan),
     }
 }
 
 // `validate`: fetches the three files one after another, and answers their texts.
-fn validate<P: Planner, D: Desk>(
+fn validate<D: Desk>(
     alloc: Global,
-    planner: &P,
     desk: &mut D,
     domain: &str,
     problem: &str,
     plan: &str,
 ) -> Result<Reply, Stop>
     requires { (D.told desk.old).faults < 2 ^ 64 - 1 }
-    ensures { Came (validate_work (P.meanings planner.now) domain.now problem.now plan.now) (D.told desk.old) (D.told desk.new) (outcome result) }
+    ensures { Came (validate_work domain.now problem.now plan.now) (D.told desk.old) (D.told desk.new) (outcome result) }
 {
     let domain_text = fetch_file(alloc, desk, Role::Domain, domain)?;
     let problem_text = fetch_file(alloc, desk, Role::Problem, problem)?;
     let plan_text = fetch_file(alloc, desk, Role::Plan, plan)?;
-    Ok(planner.validate(alloc, &domain_text, &problem_text, &plan_text)?)
+    Ok(validation_reply(alloc, &domain_text, &problem_text, &plan_text)?)
 }

@@ -1,13 +1,15 @@
 //! The replies to a validation.
 
-ghost use Rattle.std.specs.Prelude.{◌≡◌, ◌++◌, IfOk, OnOk, codes};
+ghost use Rattle.std.specs.Prelude.{◌≡◌, ◌++◌, ◌<◌, ◌^◌, ◌-◌, length, IfOk, OnOk, codes};
 ghost use Rattle.plan_text.specs.Numbers.{number_text};
+ghost use Rattle.planner_core.specs.Answers.{Validates};
 ghost use Rattle.planner_core.specs.Validations.{reason_text, verdict_said, undefined_said, unbuilt_said};
 
+use crate::plan_file::read_plan_file;
 use crate::reply::{Reply, Role};
 use crate::status::Status;
 use exact_lin::{Fraction, NoMemory};
-use first_path::{Reason, Undefined, Verdict};
+use first_path::{Reason, Rules, Undefined, Verdict, read_domain, read_problem, validate};
 use plan_text::print_number;
 use std::alloc::Global;
 
@@ -54,8 +56,8 @@ fn valid_text(alloc: Global, cost: Fraction) -> Result<Vec<u8>, NoMemory>
     Ok(text)
 }
 
-/// The reply to a plan whose line has this number in its file.
-pub fn verdict_reply(alloc: Global, line: u32, verdict: Verdict) -> Result<Reply, NoMemory>
+// The reply to a plan whose line has this number in its file.
+fn verdict_reply(alloc: Global, line: u32, verdict: Verdict) -> Result<Reply, NoMemory>
     ensures { IfOk result (λ reply. reply ≡ verdict_said line verdict) }
 {
     match verdict {
@@ -67,8 +69,8 @@ pub fn verdict_reply(alloc: Global, line: u32, verdict: Verdict) -> Result<Reply
     }
 }
 
-/// The reply to a plan with a number that passes 128 bits; its line has this number in its file.
-pub fn undefined_reply(alloc: Global, line: u32, place: Undefined) -> Result<Reply, NoMemory>
+// The reply to a plan with a number that passes 128 bits; its line has this number in its file.
+fn undefined_reply(alloc: Global, line: u32, place: Undefined) -> Result<Reply, NoMemory>
     ensures { IfOk result (λ reply. reply ≡ undefined_said line place) }
 {
     let text = match place {
@@ -78,8 +80,8 @@ pub fn undefined_reply(alloc: Global, line: u32, place: Undefined) -> Result<Rep
     Ok(Reply::new(Status::Budget, text.into_bytes()))
 }
 
-/// The reply to a file that is not one of those that are read so far.
-pub fn unbuilt_reply(alloc: Global, role: Role) -> Result<Reply, NoMemory>
+// The reply to a file that is not one of those that are read so far.
+fn unbuilt_reply(alloc: Global, role: Role) -> Result<Reply, NoMemory>
     ensures { IfOk result (λ reply. reply ≡ unbuilt_said role) }
 {
     let place = match role {
@@ -88,4 +90,32 @@ pub fn unbuilt_reply(alloc: Global, role: Role) -> Result<Reply, NoMemory>
     };
     let text = format!(in alloc; "refused {role} Unbuilt at {place} 0\n")?;
     Ok(Reply::new(Status::Refused, text.into_bytes()))
+}
+
+/// The reply to a validation of these texts: the first of them that is not read, or what the
+/// validator says of the plan.
+pub fn validation_reply(
+    alloc: Global,
+    domain: &[u8],
+    problem: &[u8],
+    plan: &[u8],
+) -> Result<Reply, NoMemory>
+    requires domain { length domain.now < 2 ^ 32 }
+    requires problem { length problem.now < 2 ^ 32 }
+    requires plan { length plan.now < 2 ^ 32 - 1 }
+    ensures { IfOk result (Validates domain.now problem.now plan.now) }
+{
+    let Some(read) = read_domain(alloc, domain)? else {
+        return unbuilt_reply(alloc, Role::Domain);
+    };
+    let Some(task) = read_problem(alloc, problem, &read)? else {
+        return unbuilt_reply(alloc, Role::Problem);
+    };
+    let Some((line, started)) = read_plan_file(plan, &read.action) else {
+        return unbuilt_reply(alloc, Role::Plan);
+    };
+    match validate(&Rules::standard(), &task, &started) {
+        Ok(verdict) => verdict_reply(alloc, line, verdict),
+        Err(place) => undefined_reply(alloc, line, place),
+    }
 }
