@@ -4,3 +4,4 @@ pub mod Scans
 pub mod Fields
 pub mod PlanFiles
 pub mod Answered
+pub mod Headlines

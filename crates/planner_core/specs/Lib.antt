@@ -7,4 +7,5 @@ pub mod Seen
 pub mod Works
 pub mod Words
 pub mod Sessions
+pub mod Headline
 pub mod Stops

@@ -3,6 +3,7 @@ ghost use Rattle.planner_core.specs.Works.{work_of, validate_work, request_of, f
 ghost use Rattle.planner_core.specs.Words.{texts};
 ghost use Rattle.planner_core.specs.Sessions.{Came, Ran};
 ghost use Rattle.planner_core.specs.Stops.{outcome, reply_said};
+ghost use Rattle.planner_core.specs.Headline.{Printed, TellsValid, TellsInvalid};
 
 use crate::fetching::{Stop, fetch_file};
 use crate::reply::{Reply, Role, too_long_reply, usage_reply};
@@ -29,6 +30,13 @@ pub fn run<D: Desk, K: Sink>(alloc: Global, words: &[String], desk: &mut D, sink
     // Want of memory leaves the outside as it was.
     ensures no_memory { result ≡ Status.NoMemory →
         (D.told desk.new ≡ D.told desk.old) × (K.told sink.new ≡ K.told sink.old) }
+
+    // A verdict is printed only where the files hold such a plan: valid at every instant and of this
+    // cost, or not valid, with its first reason.
+    ensures valid { result ≡ Status.Done → Printed TellsValid (texts words.now)
+        (D.told desk.old).files (K.told sink.old) (K.told sink.new) }
+    ensures invalid { result ≡ Status.Negative → Printed TellsInvalid (texts words.now)
+        (D.told desk.old).files (K.told sink.old) (K.told sink.new) }
 
     // The table of answers, a row a clause.
     ensures one_put { result ≢ Status.NoMemory → (K.told sink.new).puts ≡ (K.told sink.old).puts + 1 }

@@ -1,0 +1,51 @@
+-- What a printed verdict says to a reader: the plan in the files is valid at every instant and has this cost, or it is not valid, for this reason.
+use Rattle.std.specs.Prelude.{◌≡◌, ℕ, List, ◌++◌, codes, Option, Some, Ok}
+use Rattle.outside.specs.Fetching.{Files, MayAnswer}
+use Rattle.outside.specs.Putting.{SinkView, sink_with}
+use Rattle.plan_text.specs.Numbers.{number_text}
+use Rattle.first_path.specs.declared.model.Task.{Task}
+use Rattle.first_path.specs.declared.model.PlanLine.{PlanLine}
+use Rattle.first_path.specs.declared.model.Reason.{Reason}
+use Rattle.first_path.specs.Validity.{IsValid, IsFirstReason, cost}
+use Rattle.planner_core.specs.Validations.{reason_text}
+use Rattle.planner_core.specs.Works.{Validate, request_of}
+use Rattle.planner_core.specs.Answers.{AreRead, standard_rules}
+
+-- The words ask for a validation, and these are the bytes of the three files that they name.
+pub record AreFetched (words : List (List ℕ)) (files : Option Files) (domain problem plan : List ℕ) : Type 0 where
+  pub domain_name : List ℕ
+  pub problem_name : List ℕ
+  pub plan_name : List ℕ
+  pub asked : request_of words ≡ Some (Validate domain_name problem_name plan_name)
+  pub domain_fetched : MayAnswer files domain_name (Ok domain)
+  pub problem_fetched : MayAnswer files problem_name (Ok problem)
+  pub plan_fetched : MayAnswer files plan_name (Ok plan)
+
+-- The texts are those of a task and a plan that is valid, and the reply tells its cost.
+pub record TellsValid (domain problem plan text : List ℕ) : Type 0 where
+  pub task : Task
+  pub number : ℕ
+  pub line : PlanLine
+  pub read : AreRead domain problem plan task number line
+  pub valid : IsValid standard_rules task line
+  pub told : text ≡ codes "valid cost " ++ number_text (cost line) ++ codes "\n"
+
+-- The texts are those of a task and a plan that is not valid, and the reply tells the first reason.
+pub record TellsInvalid (domain problem plan text : List ℕ) : Type 0 where
+  pub task : Task
+  pub number : ℕ
+  pub line : PlanLine
+  pub reason : Reason
+  pub read : AreRead domain problem plan task number line
+  pub first : IsFirstReason standard_rules task line reason
+  pub told : text ≡ reason_text number reason ++ codes "\n"
+
+-- A reply that tells so of the files was printed whole.
+pub record Printed (Tells : List ℕ → List ℕ → List ℕ → List ℕ → Type 0) (words : List (List ℕ)) (files : Option Files) (sink sink_now : SinkView) : Type 0 where
+  pub domain : List ℕ
+  pub problem : List ℕ
+  pub plan : List ℕ
+  pub text : List ℕ
+  pub fetched : AreFetched words files domain problem plan
+  pub tells : Tells domain problem plan text
+  pub printed : sink_now ≡ sink_with sink text
