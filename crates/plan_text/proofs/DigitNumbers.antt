@@ -66,9 +66,6 @@ leading_step ds total i all fits lt =
 pub leading-all : (ds : List ℕ) (total : ℕ) → length ds ≤ total → leading ds total total ≡ number ds
 leading-all ds total fits = let e : total + length ds - total ≡ length ds = omega arith in ap (λ i. number (take i ds)) e ∙ ap number (take_all (length ds) ds (omega arith))
 
-pub leading-none : (ds : List ℕ) (total : ℕ) → length ds ≤ total → leading ds total 0 ≡ 0
-leading-none ds total fits = let e : 0 + length ds - total ≡ 0 = omega arith in ap (λ i. number (take i ds)) e
-
 -- what the first digits tell of the number, where so many follow
 pub leading_bounds : (ds : List ℕ) (total i more : ℕ) → AreDigits ds → length ds ≤ total → i + more ≡ total → (leading ds total i * 10 ^ more ≤ number ds) × (number ds + 1 ≤ (leading ds total i + 1) * 10 ^ more)
 leading_bounds ds total i zero all fits e =

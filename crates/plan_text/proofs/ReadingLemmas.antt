@@ -1,7 +1,7 @@
 -- What reading a text gives is what the text stands for.
-use Rattle.std.proofs.Common.{◌≡◌, ℕ, zero, suc, ◌+◌, ◌-◌, ◌*◌, ◌^◌, ◌<◌, ◌≤◌, Bool, true, false, cond, not, ◌&&◌, ◌==◌, nat_lt, nat_le, pos, Option, Some, None, SomeIff, List, [], ◌∷◌, ◌++◌, length, get_or, take, drop, replicate, IfSome, append-nil, mul_comm, pow-suc, refl, sym, ap, ◌∙◌, subst, inl, inr, arith}
+use Rattle.std.proofs.Common.{◌≡◌, ℕ, zero, suc, ◌+◌, ◌-◌, ◌*◌, ◌^◌, ◌<◌, ◌≤◌, Bool, true, false, cond, not, ◌&&◌, ◌==◌, nat_lt, nat_le, pos, Option, Some, None, SomeIff, List, [], ◌∷◌, ◌++◌, length, take, replicate, IfSome, append-nil, mul_comm, pow-suc, refl, sym, ap, ◌∙◌, subst, inl, inr, arith}
 use Rattle.std.proofs.lemmas.Bool.{and_parts, and_from, or_parts, or_cases, not-true, not-false, eqb-false, le-ltb, cases_Bool, cond-true, cond-false, true≢false, eqb-true, lt-ltb, ltb-true, le-leb, leb-true}
-use Rattle.std.proofs.lemmas.List.{drop_more, nil_from_length}
+use Rattle.std.proofs.lemmas.List.{nil_from_length}
 use Rattle.std.specs.List.{list_all}
 use Rattle.std.specs.Char.{is_ascii_digit}
 use Rattle.rational.specs.Rational.{ℚ, ratio, neg_ℚ}
@@ -15,21 +15,6 @@ use Rattle.plan_text.specs.Digits.{is_digits, number, number_after}
 use Rattle.plan_text.specs.Numbers.{SpellsUnsigned, SpellsNegative, Spells}
 use Rattle.plan_text.specs.Products.{AreDigits}
 use Rattle.plan_text.specs.Reading.{front_of, rest_of, pair_if, parts_marked, parts_behind, parts_of, Gives, GivesNegative, has_digit_above_zero}
-
--- one more digit at the front
-pub front_more : (text : List ℕ) (i : ℕ) → i < length text → is_ascii_digit (get_or text i 0) ≡ true → front_of (drop i text) ≡ get_or text i 0 ∷ front_of (drop (i + 1) text)
-front_more text i lt digit = ap front_of (drop_more text i 0 lt) ∙ cond-true (is_ascii_digit (get_or text i 0)) (get_or text i 0 ∷ front_of (drop (i + 1) text)) [] digit
-
-pub rest_more : (text : List ℕ) (i : ℕ) → i < length text → is_ascii_digit (get_or text i 0) ≡ true → rest_of (drop i text) ≡ rest_of (drop (i + 1) text)
-rest_more text i lt digit = ap rest_of (drop_more text i 0 lt) ∙ cond-true (is_ascii_digit (get_or text i 0)) (rest_of (drop (i + 1) text)) (get_or text i 0 ∷ drop (i + 1) text) digit
-
-pub front_stops : (text : List ℕ) (i : ℕ) → i < length text → is_ascii_digit (get_or text i 0) ≡ false → front_of (drop i text) ≡ []
-front_stops text i lt other = ap front_of (drop_more text i 0 lt) ∙ cond-false (is_ascii_digit (get_or text i 0)) (get_or text i 0 ∷ front_of (drop (i + 1) text)) [] other
-
-pub rest_stops : (text : List ℕ) (i : ℕ) → i < length text → is_ascii_digit (get_or text i 0) ≡ false → rest_of (drop i text) ≡ drop i text
-rest_stops text i lt other =
-    let split = drop_more text i 0 lt in
-    ap rest_of split ∙ cond-false (is_ascii_digit (get_or text i 0)) (rest_of (drop (i + 1) text)) (get_or text i 0 ∷ drop (i + 1) text) other ∙ sym split
 
 pub digits_join : (xs ys : List ℕ) → AreDigits xs → AreDigits ys → AreDigits (xs ++ ys)
 digits_join [] ys h k = k
@@ -163,12 +148,6 @@ reads_marked text (d ∷ ds) rest mark more result e f some split h =
     rw (← e, behind) h
 
 -- ---- what reading gives is what the text stands for
-
--- a digit is none of the marks
-digit_no_mark : (c : ℕ) → is_ascii_digit c ≡ true → (c ≡ 46 → ⊥) × (c ≡ 47 → ⊥) × (c ≡ 45 → ⊥)
-digit_no_mark c digit =
-    let low : 48 ≤ c = leb-true 48 c (and_parts (nat_le 48 c) (nat_le c 57) digit).0 in
-    (λ e. omega arith, λ e. omega arith, λ e. omega arith)
 
 -- digits before a byte that is none are the digits at the front
 front_is : (ds : List ℕ) (c : ℕ) (cs : List ℕ) → AreDigits ds → is_ascii_digit c ≡ false → (front_of (ds ++ c ∷ cs) ≡ ds) × (rest_of (ds ++ c ∷ cs) ≡ c ∷ cs)
@@ -393,23 +372,6 @@ minus_read text rest o split g = record {
         negative_size rest o (parts_of rest) refl g negative.size size fits' ∙ ap (λ (y : ℚ). Some y) (sym negative.value)
   ];
 }
-
-parts_of_nothing : parts_of [] ≡ None
-unfolding parts_of
-parts_of_nothing = refl
-
--- the empty text
-pub nothing_read : (text : List ℕ) → length text ≡ 0 → IsRead text None
-nothing_read text none =
-    let empty : text ≡ [] = nil_from_length text none in
-    record {
-      spells = tt;
-      fits = tt;
-      read = λ q h fits. elim h [
-        | inl plain ↦ absurd (parts_missing [] q parts_of_nothing (subst (λ t. SpellsUnsigned t q) empty plain))
-        | inr negative ↦ let e : [] ≡ 45 ∷ negative.rest = sym empty ∙ negative.minus in absurd cc
-      ];
-    }
 
 -- ---- each text stands for one number
 

@@ -1,13 +1,11 @@
 -- A fraction between two neighbours has no smaller parts than those of both together.
-use Rattle.std.proofs.Common.{◌≡◌, ℕ, zero, suc, ◌+◌, ◌-◌, ◌*◌, ◌/◌, ◌<◌, ◌≤◌, mul-le-mul_right, mul-le-mul_left, mul_comm, ℤ, pos, ◌*ℤ◌, nat_abs, refl, sym, ap, ◌∙◌, subst, arith}
-use Rattle.std.proofs.Common.{false, not, ◌==◌, Ordering, Less, Equal, Greater}
-use Rattle.std.specs.Ordering.{ordering_index}
+use Rattle.std.proofs.Common.{◌≡◌, ℕ, zero, suc, ◌+◌, ◌-◌, ◌*◌, ◌/◌, ◌<◌, ◌≤◌, mul-le-mul_left, mul_comm, ℤ, pos, ◌*ℤ◌, nat_abs, refl, sym, ap, ◌∙◌, subst, arith}
 use Rattle.std.proofs.Math.Nat.{lt_of_mul-lt-mul_right}
 use Rattle.rational.specs.Rational.{ratio}
 use Rattle.rational.specs.Gcd.{gcd}
 use Rattle.rational.proofs.Fractions.{den_pos, ratio-cross}
 use Rattle.exact_lin.specs.Reckoning.{Fits}
-use Rattle.plan_text.specs.Products.{LiesBetween, IsStep}
+use Rattle.plan_text.specs.Products.{LiesBetween, AreSteps, IsStep}
 
 -- x = y + w with a positive w, in place of y < x
 gap : (y x : ℕ) → y < x → (w : ℕ) × (0 < w) × (x ≡ y + w)
@@ -36,46 +34,21 @@ left_gap n d a b p q above same some =
     scale : (k x y : ℕ) → 0 < k → x < y → k * x < k * y
     scale k x y some lt = let more = mul-le-mul_left k lt in omega arith
 
--- a step of so many times the parts, and the fraction that it led to
-pub record IsDoubling (x y s t p q u v : ℕ) : Type 0 where
-  pub times : ℕ
-  pub some : 0 < times
-  pub num : p ≡ x + u
-  pub den : q ≡ y + v
-  pub step_num : u ≡ times * s
-  pub step_den : v ≡ times * t
+-- a step, and then so many of two
+pub steps_double : (x y s t u v p q : ℕ) → u ≡ x + s → v ≡ y + t → AreSteps u v (s + s) (t + t) p q → AreSteps x y s t p q
+steps_double x y s t u v p q num den h =
+    let first = h.first in
+    let second = h.second in
+    record { times = 1 + 2 * h.times; first = omega arith; second = omega arith }
 
-pub doubling_start : (x y s t : ℕ) → IsDoubling x y s t (x + s) (y + t) s t
-doubling_start x y s t = record { times = 1; some = omega arith; num = refl; den = refl; step_num = omega arith; step_den = omega arith }
-
-pub doubling_next : (x y s t p q u v : ℕ) → IsDoubling x y s t p q u v → IsDoubling x y s t (p + u) (q + v) (u + u) (v + v)
-doubling_next x y s t p q u v h =
-    let num = h.step_num in
-    let den = h.step_den in
-    record {
-      times = h.times + h.times;
-      some = omega (arith, h.some);
-      num = omega (arith, h.num);
-      den = omega (arith, h.den);
-      step_num = omega arith;
-      step_den = omega arith;
-    }
-
-pub doubling_step : (x y s t p q u v : ℕ) → IsDoubling x y s t p q u v → IsStep x y s t p q
-doubling_step x y s t p q u v h = record { times = h.times; some = h.some; first = omega (arith, h.num, h.step_num); second = omega (arith, h.den, h.step_den) }
-
--- a step isn't empty
-pub doubling_some : (x y s t p q u v : ℕ) → IsDoubling x y s t p q u v → 0 < s + t → 0 < u + v
-doubling_some x y s t p q u v h some =
-    let num = h.step_num in
-    let den = h.step_den in
-    let times : 1 * (s + t) ≤ h.times * (s + t) = mul-le-mul_right (s + t) h.some in
-    omega arith
+-- one step more
+pub steps_more : (x y s t p q u v : ℕ) → AreSteps x y s t p q → u ≡ p + s → v ≡ q + t → AreSteps x y s t u v
+steps_more x y s t p q u v h num den =
+    let first = h.first in
+    let second = h.second in
+    record { times = h.times + 1; first = omega arith; second = omega arith }
 
 -- ---- the two neighbours
-
-pub between_start : (n d : ℕ) → 0 < d → 0 * d < 1 * n → LiesBetween n d 1 0 0 1
-between_start n d some below = record { above = omega arith; below = below; neighbours = omega arith }
 
 -- no fraction that is equal to n / d has smaller parts than both neighbours together
 pub least_parts : (n d a b c e p q : ℕ) → LiesBetween n d a b c e → p * d ≡ q * n → 0 < q → (a + c ≤ p) × (b + e ≤ q)
@@ -109,12 +82,6 @@ between_below n d a b c e p q h step below =
     let second = ap (λ (x : ℕ). a * x) step.second in
     record { above = h.above; below = below; neighbours = omega (arith, h.neighbours) }
 
--- neighbours aren't empty
-pub between_some : (n d a b c e : ℕ) → LiesBetween n d a b c e → (0 < a) × (0 < e)
-between_some n d zero b c e h = let above = h.above in absurd (omega arith)
-between_some n d (suc a) b c zero h = let below = h.below in absurd (omega arith)
-between_some n d (suc a) b c (suc e) h = (omega arith, omega arith)
-
 num_up : (n d : ℕ) → 0 < d → (p : ℕ) × ((ratio (pos n) d).num ≡ pos p)
 unfolding ratio
 num_up n zero lt = absurd (omega arith)
@@ -134,15 +101,3 @@ past_limit n d a b c e limit some h fits =
   where
     pos_same : (x y : ℕ) → pos x ≡ pos y → x ≡ y
     pos_same x y e = cc
-
--- orders that are not found to differ are one
-pub same_order : (o side : Ordering) → not (ordering_index o == ordering_index side) ≡ false → o ≡ side
-same_order Less Less e = refl
-same_order Less Equal e = absurd cc
-same_order Less Greater e = absurd cc
-same_order Equal Less e = absurd cc
-same_order Equal Equal e = refl
-same_order Equal Greater e = absurd cc
-same_order Greater Less e = absurd cc
-same_order Greater Equal e = absurd cc
-same_order Greater Greater e = refl

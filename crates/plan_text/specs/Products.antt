@@ -24,7 +24,13 @@ pub record LiesBetween (n d a b c e : ℕ) : Type 0 where
   pub below : c * d < e * n
   pub neighbours : a * e ≡ b * c + 1
 
--- from one pair on by a multiple of another
+-- from one pair on by so many times another, or none
+pub record AreSteps (x y s t p q : ℕ) : Type 0 where
+  pub times : ℕ
+  pub first : p ≡ x + times * s
+  pub second : q ≡ y + times * t
+
+-- from one pair on by so many times another, at least once
 pub record IsStep (x y s t p q : ℕ) : Type 0 where
   pub times : ℕ
   pub some : 0 < times

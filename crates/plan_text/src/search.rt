@@ -21,7 +21,7 @@ ghost use Rattle.std.specs.Prelude.{
 ghost use Rattle.rational.specs.Rational.{ratio};
 ghost use Rattle.exact_lin.specs.Reckoning.{wide_limit, Fits};
 ghost use Rattle.plan_text.specs.Digits.{number};
-ghost use Rattle.plan_text.specs.Products.{AreDigits, Compares, LiesBetween, IsStep};
+ghost use Rattle.plan_text.specs.Products.{AreDigits, Compares, LiesBetween, AreSteps, IsStep};
 
 use crate::compare::compare;
 use crate::digits::{Digits, LIMIT};
@@ -34,7 +34,77 @@ pub struct Quotient {
     pub den: u128,
 }
 
-/// Goes on from one fraction by parts of another, in steps that double, as long as it stays on one side of n / d.
+/// The fraction that another's parts lead to, where it is on the side of n / d and within the limit.
+fn advanced(
+    side: Ordering,
+    from: Quotient,
+    by: Quotient,
+    n: &Digits,
+    d: &Digits,
+) -> Option<Quotient>
+    requires from_num { from.num ≤ wide_limit }
+    requires from_den { from.den ≤ wide_limit }
+    requires by_num { by.num ≤ wide_limit }
+    requires by_den { by.den ≤ wide_limit }
+    requires n { AreDigits (n.now.front.now ++ n.now.back.now) }
+    requires d { AreDigits (d.now.front.now ++ d.now.back.now) }
+    requires n_len { length n.now.front.now + length n.now.back.now < 2 ^ 64 }
+    requires d_len { length d.now.front.now + length d.now.back.now < 2 ^ 64 }
+    ensures num { IfSome result (λ next. next.num ≡ from.num + by.num) }
+    ensures den { IfSome result (λ next. next.den ≡ from.den + by.den) }
+    ensures num_fits { IfSome result (λ next. next.num ≤ wide_limit) }
+    ensures den_fits { IfSome result (λ next. next.den ≤ wide_limit) }
+    ensures on_side { IfSome result (λ next. Compares side next.num next.den
+        (number (n.now.front.now ++ n.now.back.now)) (number (d.now.front.now ++ d.now.back.now))) }
+{
+    let num = from.num + by.num;
+    let den = from.den + by.den;
+    if num > LIMIT || den > LIMIT {
+        return None;
+    }
+    if compare(num, den, n, d) != side {
+        return None;
+    }
+    Some(Quotient { num, den })
+}
+
+/// Goes on from a fraction by as many steps as leave it on its side of n / d: by one, by two more, by four more and so
+/// on, and then back through the same numbers.
+fn furthest(side: Ordering, best: Quotient, step: Quotient, n: &Digits, d: &Digits) -> Quotient
+    requires num { best.num ≤ wide_limit }
+    requires den { best.den ≤ wide_limit }
+    requires step_num { step.num ≤ best.num }
+    requires step_den { step.den ≤ best.den }
+    requires some { 0 < step.num + step.den }
+    requires on_side { Compares side best.num best.den
+        (number (n.now.front.now ++ n.now.back.now)) (number (d.now.front.now ++ d.now.back.now)) }
+    requires n { AreDigits (n.now.front.now ++ n.now.back.now) }
+    requires d { AreDigits (d.now.front.now ++ d.now.back.now) }
+    requires n_len { length n.now.front.now + length n.now.back.now < 2 ^ 64 }
+    requires d_len { length d.now.front.now + length d.now.back.now < 2 ^ 64 }
+    ensures steps { AreSteps best.num best.den step.num step.den result.num result.den }
+    ensures on_side { Compares side result.num result.den
+        (number (n.now.front.now ++ n.now.back.now)) (number (d.now.front.now ++ d.now.back.now)) }
+    ensures num { result.num ≤ wide_limit }
+    ensures den { result.den ≤ wide_limit }
+{
+    match advanced(side, best, step, n, d) {
+        None => best,
+        Some(next) => {
+            let double = Quotient {
+                num: step.num + step.num,
+                den: step.den + step.den,
+            };
+            let far = furthest(side, next, double, n, d);
+            match advanced(side, far, step, n, d) {
+                None => far,
+                Some(last) => last,
+            }
+        }
+    }
+}
+
+/// Goes on from one fraction by the parts of another, as often as it stays on one side of n / d.
 fn far(side: Ordering, from: Quotient, by: Quotient, n: &Digits, d: &Digits) -> Quotient
     requires num { from.num + by.num ≤ wide_limit }
     requires den { from.den + by.den ≤ wide_limit }
@@ -51,26 +121,11 @@ fn far(side: Ordering, from: Quotient, by: Quotient, n: &Digits, d: &Digits) -> 
     ensures num { result.num ≤ wide_limit }
     ensures den { result.den ≤ wide_limit }
 {
-    let mut best = Quotient {
+    let best = Quotient {
         num: from.num + by.num,
         den: from.den + by.den,
     };
-    let mut step = by;
-    'doubling: loop {
-        let num = best.num + step.num;
-        let den = best.den + step.den;
-        if num > LIMIT || den > LIMIT {
-            return best;
-        }
-        if compare(num, den, n, d) != side {
-            return best;
-        }
-        best = Quotient { num, den };
-        step = Quotient {
-            num: step.num + step.num,
-            den: step.den + step.den,
-        };
-    }
+    furthest(side, best, by, n, d)
 }
 
 /// The parts of n / d in lowest terms, where they are not past the limit.

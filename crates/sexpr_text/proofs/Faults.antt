@@ -15,12 +15,6 @@ use Rattle.sexpr_text.proofs.Places.{closes_code, code_inside}
 use Rattle.sexpr_text.proofs.Heights.{step_open, step_close, closes_again, closes_one}
 use Rattle.sexpr_text.proofs.Spans.{run_is_read}
 
--- a fault of a run is one of the text
-pub run_fault_is_fault : (text : List ℕ) (wrong : RunFault) (place : ℕ) → HasRunFault text place wrong → IsFault text (run_fault wrong place)
-run_fault_is_fault text of_run.Unknown place h = h
-run_fault_is_fault text of_run.LongName place h = h
-run_fault_is_fault text of_run.Malformed place h = h
-
 pub place_of-run_fault : (wrong : RunFault) (place : ℕ) → place_of (run_fault wrong place) ≡ place
 place_of-run_fault of_run.Unknown place = refl
 place_of-run_fault of_run.LongName place = refl

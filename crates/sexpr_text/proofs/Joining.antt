@@ -75,12 +75,12 @@ numbered_at number [] h i lt = absurd (omega arith)
 numbered_at number (t ∷ ts) h zero lt = omega (arith, h.0)
 numbered_at number (t ∷ ts) h (suc i) lt = let more = numbered_at (suc number) ts h.1 i (omega arith) in omega arith
 
-pub stands_same : (ts us : List Token) → SameSpans ts us → (i place : ℕ) → StandsAt ts i place → StandsAt us i place
+stands_same : (ts us : List Token) → SameSpans ts us → (i place : ℕ) → StandsAt ts i place → StandsAt us i place
 stands_same ts us h i place s =
     let u = same_at ts us h i s.0 s.1 in
     (u.0, u.1, sym u.3 ∙ s.2)
 
-mate_same : (text : List ℕ) (ts us : List Token) → SameSpans ts us → (i at : ℕ) (kind : TokenKind) (mate : ℕ) → IsMate text ts i at kind mate → IsMate text us i at kind mate
+pub mate_same : (text : List ℕ) (ts us : List Token) → SameSpans ts us → (i at : ℕ) (kind : TokenKind) (mate : ℕ) → IsMate text ts i at kind mate → IsMate text us i at kind mate
 mate_same text ts us h i at Open mate m = (m.0, stands_same ts us h mate m.0 m.1, m.2)
 mate_same text ts us h i at Close mate m = (m.0, stands_same ts us h mate m.0 m.1, m.2)
 mate_same text ts us h i at Name mate m = m

@@ -1,6 +1,6 @@
 -- What stands at a place, from the byte there and what goes before.
-use Rattle.std.proofs.Common.{◌≡◌, ℕ, zero, suc, ◌+◌, ◌-◌, ◌<◌, ◌≤◌, ◌≢◌, true, false, not, ◌||◌, ◌==◌, List, length, slice_index, refl, sym, ap, ◌∙◌, subst, inl, inr, ⊎_elim, arith, eqb-true, ne_eqb, eq-eqb, ltb-true, ltb-false, lt-ltb, le-ltb, nat_lt}
-use Rattle.std.proofs.lemmas.Bool.{true≢false, not-true, cases_lt, and_parts, or_cases, cases_Bool, and_from, and_left, and_right, not_from_true, not_from_false, cases_eq, eqb-false, and_cases, or_parts, or_left, or_right}
+use Rattle.std.proofs.Common.{◌≡◌, ℕ, zero, suc, ◌+◌, ◌-◌, ◌<◌, ◌≤◌, ◌≢◌, true, false, not, ◌||◌, ◌==◌, List, length, slice_index, refl, sym, ap, ◌∙◌, subst, inl, inr, arith, eqb-true, ne_eqb, eq-eqb, ltb-true, ltb-false, lt-ltb, le-ltb, nat_lt}
+use Rattle.std.proofs.lemmas.Bool.{true≢false, not-true, cases_lt, and_parts, or_cases, cases_Bool, and_from, and_left, and_right, not_from_true, not_from_false, cases_eq, eqb-false, or_parts, or_left, or_right}
 use Rattle.sexpr_text.specs.Comments.{is_blank, is_parenthesis, in_comment, is_code, is_written, opens_at, closes_at, in_run, StandsBehindSemicolon}
 use Rattle.sexpr_text.specs.Runs.{IsRun}
 use Rattle.sexpr_text.specs.Scan.{is_separator, IsClear, IsGap}
@@ -109,14 +109,6 @@ pub closes_from : (text : List ℕ) (i : ℕ) → is_code text i ≡ true → sl
 unfolding closes_at
 closes_from text i code byte = and_from _ _ code (eq-eqb _ _ byte)
 
-pub no_code_no_opens : (text : List ℕ) (i : ℕ) → is_code text i ≡ false → opens_at text i ≡ false
-unfolding opens_at
-no_code_no_opens text i absent = and_left _ _ absent
-
-pub no_code_no_closes : (text : List ℕ) (i : ℕ) → is_code text i ≡ false → closes_at text i ≡ false
-unfolding closes_at
-no_code_no_closes text i absent = and_left _ _ absent
-
 -- a parenthesis outside comments is written
 pub paren_written : (text : List ℕ) (i : ℕ) → is_code text i ≡ true → is_parenthesis (slice_index text i) ≡ true → is_written text i ≡ true
 unfolding is_written
@@ -146,15 +138,6 @@ closes_no_run text i closes = parenthesis_no_run text i (closes_paren text i clo
 
 pub opens_no_closes : (text : List ℕ) (i : ℕ) → opens_at text i ≡ true → closes_at text i ≡ true → ⊥
 opens_no_closes text i opens closes = omega (arith, opens_byte text i opens, closes_byte text i closes)
-
--- what is written is a parenthesis or in a run
-pub written_cases : (text : List ℕ) (i : ℕ) → is_written text i ≡ true → opens_at text i ≡ false → closes_at text i ≡ false → in_run text i ≡ true
-unfolding in_run opens_at closes_at
-written_cases text i written no_open no_close =
-    let code = written_code text i written in
-    let not_open : (slice_index text i == 40) ≡ false = ⊎_elim (λ e. absurd (true≢false (sym code ∙ e))) (λ e. e) (and_cases _ _ no_open) in
-    let not_close : (slice_index text i == 41) ≡ false = ⊎_elim (λ e. absurd (true≢false (sym code ∙ e))) (λ e. e) (and_cases _ _ no_close) in
-    and_from _ _ written (not_from_false _ (rw (not_open, not_close) refl))
 
 -- ---- clear places
 

@@ -18,7 +18,7 @@ use Rattle.sexpr_text.specs.Forms.{Lexed, LieWithin, AreOrdered, MatesLeadBack, 
 use Rattle.sexpr_text.proofs.Places.{in_run_inside, code_inside, opens_code, closes_code, opens_no_closes, opens_no_run, closes_no_run}
 use Rattle.sexpr_text.proofs.Heights.{up, down, level, step_at, step_open, step_close, same_first, same_last, closes_again, opened-zero, closed-zero}
 use Rattle.sexpr_text.proofs.Spans.{open_span, close_span, run_span, span_of, span_at, spans_within, run_end, same_spans, run_is_read, open_is_token, close_is_token}
-use Rattle.sexpr_text.proofs.Joining.{same_at, stands_same, get_from_read, get_below}
+use Rattle.sexpr_text.proofs.Joining.{same_at, mate_same, get_from_read, get_below}
 
 -- ---- tokens in order
 
@@ -84,16 +84,6 @@ mate_once text to ts h i at Number m n a b = a ∙ sym b
 mate_once text to ts h i at Mark m n a b = a ∙ sym b
 mate_once text to ts h i at Time m n a b = a ∙ sym b
 
-mate_other : (text : List ℕ) (ts us : List Token) → SameSpans ts us → (i at : ℕ) (kind : TokenKind) (m : ℕ) → IsMate text ts i at kind m → IsMate text us i at kind m
-mate_other text ts us h i at Open m a = (a.0, stands_same ts us h m a.0 a.1, a.2)
-mate_other text ts us h i at Close m a = (a.0, stands_same ts us h m a.0 a.1, a.2)
-mate_other text ts us h i at Name m a = a
-mate_other text ts us h i at Variable m a = a
-mate_other text ts us h i at Keyword m a = a
-mate_other text ts us h i at Number m a = a
-mate_other text ts us h i at Mark m a = a
-mate_other text ts us h i at Time m a = a
-
 -- lists of the same spans and the same mates are one
 same_lists_of : (ts us : List Token) → SameSpans ts us → ((i : ℕ) (t u : Token) → slice_get ts i ≡ Some t → slice_get us i ≡ Some u → t.mate ≡ u.mate) → ts ≡ us
 same_lists_of [] [] h mates = refl
@@ -117,7 +107,7 @@ one_list text ts us a b =
     let one : v.0 ≡ u = cc in
     let kind : t.kind ≡ u.kind = v.2 ∙ ap (λ (w : Token). w.kind) one in
     let at : t.at ≡ u.at = v.3 ∙ ap (λ (w : Token). w.at) one in
-    let here : IsMate text us i t.at t.kind t.mate = mate_other text ts us same i t.at t.kind t.mate (a.mates i t e) in
+    let here : IsMate text us i t.at t.kind t.mate = mate_same text ts us same i t.at t.kind t.mate (a.mates i t e) in
     let here' : IsMate text us i u.at u.kind t.mate = subst (λ k. IsMate text us i u.at k t.mate) kind (subst (λ p. IsMate text us i p t.kind t.mate) at here) in
     mate_once text (length text) us b.spans i u.at u.kind t.mate u.mate here' (b.mates i u f))
 
