@@ -9,4 +9,3 @@ pub mod States
 pub mod Verdicts
 pub mod Uniqueness
 pub mod ProblemReading
-pub mod WrittenLines

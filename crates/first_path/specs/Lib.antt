@@ -8,4 +8,3 @@ pub mod Decimal
 pub mod Leaves
 pub mod DomainText
 pub mod Problem
-pub mod PlanFile

@@ -9,7 +9,6 @@ mod grammar;
 mod laws;
 mod model;
 mod numbers;
-mod plan;
 mod problem;
 mod reckoned;
 mod validator;
