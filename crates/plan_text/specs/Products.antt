@@ -1,10 +1,15 @@
 -- Words for the comparison of products of any length, and for the search of a quotient's parts: for private functions alone.
-use Rattle.std.specs.Prelude.{◌≡◌, ℕ, ◌+◌, ◌-◌, ◌*◌, ◌^◌, ◌≤◌, ◌<◌, true, List, length, take}
+use Rattle.std.specs.Prelude.{◌≡◌, ℕ, ◌+◌, ◌-◌, ◌*◌, ◌^◌, ◌≤◌, ◌<◌, true, List, ◌++◌, length, take}
 use Rattle.std.specs.List.{list_all}
 use Rattle.std.specs.Char.{is_ascii_digit}
 use Rattle.std.specs.Ordering.{MatchOrdering}
 use Rattle.std.specs.declared.cmp.Ordering.{Ordering}
+use Rattle.plan_text.specs.declared.digits.Digits.{Digits}
 use Rattle.plan_text.specs.Digits.{number}
+
+-- the digits of both texts, one behind the other
+abbrev pub bytes_of : Digits → List ℕ
+bytes_of digits = digits.front.now ++ digits.back.now
 
 -- each byte is a digit
 abbrev pub AreDigits : List ℕ → Type 0

@@ -21,11 +21,19 @@ rest_of (c ∷ cs) = if is_ascii_digit c then rest_of cs else c ∷ cs
 abbrev pub pair_if : Bool → ℕ → ℕ → Option (ℕ × ℕ)
 pair_if test n d = if test then Some (n, d) else None
 
+-- the two parts of a decimal: all its digits, and a power of ten
+abbrev pub decimal_parts : List ℕ → List ℕ → Option (ℕ × ℕ)
+decimal_parts front places = pair_if (is_digits places && nat_le (length places) 18) (number (front ++ places)) (10 ^ length places)
+
+-- the two parts of a quotient
+abbrev pub quotient_parts : List ℕ → List ℕ → Option (ℕ × ℕ)
+quotient_parts above below = pair_if (is_digits below && nat_lt 0 (number below)) (number above) (number below)
+
 -- the two parts of digits, a mark and what follows it
 abbrev pub parts_marked : List ℕ → ℕ → List ℕ → Option (ℕ × ℕ)
 parts_marked front mark more =
-    if mark == 46 then pair_if (is_digits more && nat_le (length more) 18) (number (front ++ more)) (10 ^ length more)
-    else (if mark == 47 then pair_if (is_digits more && nat_lt 0 (number more)) (number front) (number more)
+    if mark == 46 then decimal_parts front more
+    else (if mark == 47 then quotient_parts front more
     else None)
 
 -- the two parts of digits and what follows them

@@ -4,7 +4,7 @@ ghost use Rattle.std.specs.Prelude.{◌≡◌, ℕ, ◌+◌, ◌*◌, ◌^◌, �
 ghost use Rattle.std.specs.Ordering.{MatchOrdering};
 ghost use Rattle.exact_lin.specs.Reckoning.{wide_limit};
 ghost use Rattle.plan_text.specs.Digits.{number};
-ghost use Rattle.plan_text.specs.Products.{AreDigits, Compares, IsNear};
+ghost use Rattle.plan_text.specs.Products.{bytes_of, AreDigits, Compares, IsNear};
 
 use crate::digits::Digits;
 use std::cmp::Ordering;
@@ -66,11 +66,11 @@ fn sign(difference: Difference) -> Ordering
 pub fn compare(p: u128, q: u128, n: &Digits, d: &Digits) -> Ordering
     requires p { p ≤ wide_limit }
     requires q { q ≤ wide_limit }
-    requires n { AreDigits (n.now.front.now ++ n.now.back.now) }
-    requires d { AreDigits (d.now.front.now ++ d.now.back.now) }
+    requires n { AreDigits (bytes_of n.now) }
+    requires d { AreDigits (bytes_of d.now) }
     requires n_len { length n.now.front.now + length n.now.back.now < 2 ^ 64 }
     requires d_len { length d.now.front.now + length d.now.back.now < 2 ^ 64 }
-    ensures { Compares result p q (number (n.now.front.now ++ n.now.back.now)) (number (d.now.front.now ++ d.now.back.now)) }
+    ensures { Compares result p q (number (bytes_of n.now)) (number (bytes_of d.now)) }
 {
     let total = n.len().max(d.len());
     let mut difference = Difference { high: EVEN, low: 0 };

@@ -21,7 +21,7 @@ ghost use Rattle.std.specs.List.{list_all};
 ghost use Rattle.std.specs.Char.{is_ascii_digit};
 ghost use Rattle.exact_lin.specs.Reckoning.{wide_limit};
 ghost use Rattle.plan_text.specs.Digits.{is_digits, number, number_after};
-ghost use Rattle.plan_text.specs.Products.{AreDigits, leading};
+ghost use Rattle.plan_text.specs.Products.{bytes_of, AreDigits, leading};
 
 /// The largest part of a fraction.
 pub const LIMIT: u128 = 170141183460469231731687303715884105727;
@@ -36,14 +36,14 @@ pub struct Digits<'a> {
 impl<'a> Digits<'a> {
     pub fn len(&self) -> usize
         requires { length self.now.front.now + length self.now.back.now < 2 ^ 64 }
-        ensures { result ≡ length (self.now.front.now ++ self.now.back.now) }
+        ensures { result ≡ length (bytes_of self.now) }
     {
         self.front.len() + self.back.len()
     }
 
     fn byte(&self, i: usize) -> u8
-        requires { i < length (self.now.front.now ++ self.now.back.now) }
-        ensures { result ≡ slice_index (self.now.front.now ++ self.now.back.now) i }
+        requires { i < length (bytes_of self.now) }
+        ensures { result ≡ slice_index (bytes_of self.now) i }
     {
         if i < self.front.len() {
             self.front[i]
@@ -54,12 +54,12 @@ impl<'a> Digits<'a> {
 
     /// The digit at a place, where zeros in front make the digits so many.
     pub fn aligned(&self, total: usize, i: usize) -> u128
-        requires digits { AreDigits (self.now.front.now ++ self.now.back.now) }
+        requires digits { AreDigits (bytes_of self.now) }
         requires len { length self.now.front.now + length self.now.back.now < 2 ^ 64 }
-        requires total { length (self.now.front.now ++ self.now.back.now) ≤ total }
+        requires total { length (bytes_of self.now) ≤ total }
         requires inside { i < total }
-        ensures value { leading (self.now.front.now ++ self.now.back.now) total (suc i)
-            ≡ 10 * leading (self.now.front.now ++ self.now.back.now) total i + result }
+        ensures value { leading (bytes_of self.now) total (suc i)
+            ≡ 10 * leading (bytes_of self.now) total i + result }
         ensures small { result ≤ 9 }
     {
         let zeros = total - self.len();
@@ -101,10 +101,11 @@ fn without_zeros(text: &[u8]) -> &[u8]
 impl<'a> Digits<'a> {
     /// The same number without zeros in front of the first part, so that a comparison has less to go over.
     pub fn trimmed(&self) -> Digits<'a>
-        requires { AreDigits (self.now.front.now ++ self.now.back.now) }
-        ensures number { number (result.front.now ++ result.back.now) ≡ number (self.now.front.now ++ self.now.back.now) }
-        ensures digits { AreDigits (result.front.now ++ result.back.now) }
-        ensures len { length result.front.now + length result.back.now ≤ length self.now.front.now + length self.now.back.now }
+        requires { AreDigits (bytes_of self.now) }
+        ensures number { number (bytes_of result) ≡ number (bytes_of self.now) }
+        ensures digits { AreDigits (bytes_of result) }
+        ensures len { length result.front.now + length result.back.now
+            ≤ length self.now.front.now + length self.now.back.now }
     {
         Digits {
             front: without_zeros(self.front),

@@ -27,8 +27,8 @@ ghost use Rattle.rational.specs.Rational.{ℚ, ratio};
 ghost use Rattle.exact_lin.specs.Reckoning.{wide_limit, Fits};
 ghost use Rattle.plan_text.specs.Digits.{is_digits, number};
 ghost use Rattle.plan_text.specs.Numbers.{Spells, number_text};
-ghost use Rattle.plan_text.specs.Products.{AreDigits};
-ghost use Rattle.plan_text.specs.Reading.{front_of, rest_of, pair_if, parts_marked, parts_of, Gives, GivesNegative, has_digit_above_zero};
+ghost use Rattle.plan_text.specs.Products.{bytes_of, AreDigits};
+ghost use Rattle.plan_text.specs.Reading.{front_of, rest_of, decimal_parts, quotient_parts, parts_marked, parts_of, Gives, GivesNegative, has_digit_above_zero};
 
 use crate::digits::{Digits, is_digits, small_after};
 use crate::search::{Quotient, lowest_parts};
@@ -62,8 +62,8 @@ fn has_digit_above_zero(text: &[u8]) -> bool
 
 /// The number that digits stand for, where it is not past the limit.
 fn small(digits: &Digits) -> Option<u128>
-    requires { AreDigits (digits.now.front.now ++ digits.now.back.now) }
-    ensures value { IfSome result (λ n. n ≡ number (digits.now.front.now ++ digits.now.back.now)) }
+    requires { AreDigits (bytes_of digits.now) }
+    ensures value { IfSome result (λ n. n ≡ number (bytes_of digits.now)) }
     ensures fits { IfSome result (λ n. n ≤ wide_limit) }
 {
     small_after(small_after(0, digits.front)?, digits.back)
@@ -81,18 +81,18 @@ fn fraction(parts: Quotient) -> Fraction
 
 /// The parts of n / d, in lowest terms or at most the limit.
 fn parts(n: &Digits, d: &Digits) -> Option<Quotient>
-    requires some { 0 < number (d.now.front.now ++ d.now.back.now) }
-    requires n { AreDigits (n.now.front.now ++ n.now.back.now) }
-    requires d { AreDigits (d.now.front.now ++ d.now.back.now) }
+    requires some { 0 < number (bytes_of d.now) }
+    requires n { AreDigits (bytes_of n.now) }
+    requires d { AreDigits (bytes_of d.now) }
     requires n_len { length n.now.front.now + length n.now.back.now < 2 ^ 64 }
     requires d_len { length d.now.front.now + length d.now.back.now < 2 ^ 64 }
-    ensures same { IfSome result (λ r. r.num * number (d.now.front.now ++ d.now.back.now)
-        ≡ r.den * number (n.now.front.now ++ n.now.back.now)) }
+    ensures same { IfSome result (λ r. r.num * number (bytes_of d.now)
+        ≡ r.den * number (bytes_of n.now)) }
     ensures den { IfSome result (λ r. 0 < r.den) }
     ensures num_fits { IfSome result (λ r. r.num ≤ wide_limit) }
     ensures den_fits { IfSome result (λ r. r.den ≤ wide_limit) }
-    ensures none { IfNone result (Fits wide_limit (ratio (pos (number (n.now.front.now ++ n.now.back.now)))
-        (number (d.now.front.now ++ d.now.back.now))) → ⊥) }
+    ensures none { IfNone result (Fits wide_limit (ratio (pos (number (bytes_of n.now)))
+        (number (bytes_of d.now))) → ⊥) }
 {
     match (small(n), small(d)) {
         (Some(num), Some(den)) => Some(Quotient { num, den }),
@@ -102,14 +102,14 @@ fn parts(n: &Digits, d: &Digits) -> Option<Quotient>
 
 /// n / d, where its parts in lowest terms are not past the limit.
 fn quotient(n: &Digits, d: &Digits) -> Option<Fraction>
-    requires some { 0 < number (d.now.front.now ++ d.now.back.now) }
-    requires n { AreDigits (n.now.front.now ++ n.now.back.now) }
-    requires d { AreDigits (d.now.front.now ++ d.now.back.now) }
+    requires some { 0 < number (bytes_of d.now) }
+    requires n { AreDigits (bytes_of n.now) }
+    requires d { AreDigits (bytes_of d.now) }
     requires n_len { length n.now.front.now + length n.now.back.now < 2 ^ 64 }
     requires d_len { length d.now.front.now + length d.now.back.now < 2 ^ 64 }
     ensures { SomeIff result
-        (Fits wide_limit (ratio (pos (number (n.now.front.now ++ n.now.back.now))) (number (d.now.front.now ++ d.now.back.now))))
-        (ratio (pos (number (n.now.front.now ++ n.now.back.now))) (number (d.now.front.now ++ d.now.back.now))) }
+        (Fits wide_limit (ratio (pos (number (bytes_of n.now))) (number (bytes_of d.now))))
+        (ratio (pos (number (bytes_of n.now))) (number (bytes_of d.now))) }
 {
     match parts(n, d) {
         Some(parts) => Some(fraction(parts)),
@@ -133,7 +133,7 @@ fn read_whole(front: &[u8]) -> Option<Fraction>
 fn read_decimal(front: &[u8], places: &[u8]) -> Option<Fraction>
     requires front { AreDigits front.now }
     requires len { length front.now + length places.now < 2 ^ 64 }
-    ensures { Gives (pair_if (is_digits places.now && nat_le (length places.now) 18) (number (front.now ++ places.now)) (10 ^ length places.now)) result }
+    ensures { Gives (decimal_parts front.now places.now) result }
 {
     if !is_digits(places) || places.len() > MAX_PLACES {
         return None;
@@ -152,7 +152,7 @@ fn read_decimal(front: &[u8], places: &[u8]) -> Option<Fraction>
 fn read_quotient(above: &[u8], below: &[u8]) -> Option<Fraction>
     requires above { AreDigits above.now }
     requires len { length above.now + length below.now < 2 ^ 64 }
-    ensures { Gives (pair_if (is_digits below.now && nat_lt 0 (number below.now)) (number above.now) (number below.now)) result }
+    ensures { Gives (quotient_parts above.now below.now) result }
 {
     if !is_digits(below) || !has_digit_above_zero(below) {
         return None;

@@ -21,7 +21,7 @@ ghost use Rattle.std.specs.Prelude.{
 ghost use Rattle.rational.specs.Rational.{ratio};
 ghost use Rattle.exact_lin.specs.Reckoning.{wide_limit, Fits};
 ghost use Rattle.plan_text.specs.Digits.{number};
-ghost use Rattle.plan_text.specs.Products.{AreDigits, Compares, LiesBetween, AreSteps, IsStep};
+ghost use Rattle.plan_text.specs.Products.{bytes_of, AreDigits, Compares, LiesBetween, AreSteps, IsStep};
 
 use crate::compare::compare;
 use crate::digits::{Digits, LIMIT};
@@ -46,8 +46,8 @@ fn advanced(
     requires from_den { from.den ≤ wide_limit }
     requires by_num { by.num ≤ wide_limit }
     requires by_den { by.den ≤ wide_limit }
-    requires n { AreDigits (n.now.front.now ++ n.now.back.now) }
-    requires d { AreDigits (d.now.front.now ++ d.now.back.now) }
+    requires n { AreDigits (bytes_of n.now) }
+    requires d { AreDigits (bytes_of d.now) }
     requires n_len { length n.now.front.now + length n.now.back.now < 2 ^ 64 }
     requires d_len { length d.now.front.now + length d.now.back.now < 2 ^ 64 }
     ensures num { IfSome result (λ next. next.num ≡ from.num + by.num) }
@@ -55,7 +55,7 @@ fn advanced(
     ensures num_fits { IfSome result (λ next. next.num ≤ wide_limit) }
     ensures den_fits { IfSome result (λ next. next.den ≤ wide_limit) }
     ensures on_side { IfSome result (λ next. Compares side next.num next.den
-        (number (n.now.front.now ++ n.now.back.now)) (number (d.now.front.now ++ d.now.back.now))) }
+        (number (bytes_of n.now)) (number (bytes_of d.now))) }
 {
     let num = from.num + by.num;
     let den = from.den + by.den;
@@ -77,14 +77,14 @@ fn furthest(side: Ordering, best: Quotient, step: Quotient, n: &Digits, d: &Digi
     requires step_den { step.den ≤ best.den }
     requires some { 0 < step.num + step.den }
     requires on_side { Compares side best.num best.den
-        (number (n.now.front.now ++ n.now.back.now)) (number (d.now.front.now ++ d.now.back.now)) }
-    requires n { AreDigits (n.now.front.now ++ n.now.back.now) }
-    requires d { AreDigits (d.now.front.now ++ d.now.back.now) }
+        (number (bytes_of n.now)) (number (bytes_of d.now)) }
+    requires n { AreDigits (bytes_of n.now) }
+    requires d { AreDigits (bytes_of d.now) }
     requires n_len { length n.now.front.now + length n.now.back.now < 2 ^ 64 }
     requires d_len { length d.now.front.now + length d.now.back.now < 2 ^ 64 }
     ensures steps { AreSteps best.num best.den step.num step.den result.num result.den }
     ensures on_side { Compares side result.num result.den
-        (number (n.now.front.now ++ n.now.back.now)) (number (d.now.front.now ++ d.now.back.now)) }
+        (number (bytes_of n.now)) (number (bytes_of d.now)) }
     ensures num { result.num ≤ wide_limit }
     ensures den { result.den ≤ wide_limit }
 {
@@ -110,14 +110,14 @@ fn far(side: Ordering, from: Quotient, by: Quotient, n: &Digits, d: &Digits) -> 
     requires den { from.den + by.den ≤ wide_limit }
     requires some { 0 < by.num + by.den }
     requires on_side { Compares side (from.num + by.num) (from.den + by.den)
-        (number (n.now.front.now ++ n.now.back.now)) (number (d.now.front.now ++ d.now.back.now)) }
-    requires n { AreDigits (n.now.front.now ++ n.now.back.now) }
-    requires d { AreDigits (d.now.front.now ++ d.now.back.now) }
+        (number (bytes_of n.now)) (number (bytes_of d.now)) }
+    requires n { AreDigits (bytes_of n.now) }
+    requires d { AreDigits (bytes_of d.now) }
     requires n_len { length n.now.front.now + length n.now.back.now < 2 ^ 64 }
     requires d_len { length d.now.front.now + length d.now.back.now < 2 ^ 64 }
     ensures step { IsStep from.num from.den by.num by.den result.num result.den }
     ensures on_side { Compares side result.num result.den
-        (number (n.now.front.now ++ n.now.back.now)) (number (d.now.front.now ++ d.now.back.now)) }
+        (number (bytes_of n.now)) (number (bytes_of d.now)) }
     ensures num { result.num ≤ wide_limit }
     ensures den { result.den ≤ wide_limit }
 {
@@ -130,18 +130,18 @@ fn far(side: Ordering, from: Quotient, by: Quotient, n: &Digits, d: &Digits) -> 
 
 /// The parts of n / d in lowest terms, where they are not past the limit.
 pub fn lowest_parts(n: &Digits, d: &Digits) -> Option<Quotient>
-    requires some { 0 < number (d.now.front.now ++ d.now.back.now) }
-    requires n { AreDigits (n.now.front.now ++ n.now.back.now) }
-    requires d { AreDigits (d.now.front.now ++ d.now.back.now) }
+    requires some { 0 < number (bytes_of d.now) }
+    requires n { AreDigits (bytes_of n.now) }
+    requires d { AreDigits (bytes_of d.now) }
     requires n_len { length n.now.front.now + length n.now.back.now < 2 ^ 64 }
     requires d_len { length d.now.front.now + length d.now.back.now < 2 ^ 64 }
-    ensures same { IfSome result (λ r. r.num * number (d.now.front.now ++ d.now.back.now)
-        ≡ r.den * number (n.now.front.now ++ n.now.back.now)) }
+    ensures same { IfSome result (λ r. r.num * number (bytes_of d.now)
+        ≡ r.den * number (bytes_of n.now)) }
     ensures den { IfSome result (λ r. 0 < r.den) }
     ensures num_fits { IfSome result (λ r. r.num ≤ wide_limit) }
     ensures den_fits { IfSome result (λ r. r.den ≤ wide_limit) }
-    ensures none { IfNone result (Fits wide_limit (ratio (pos (number (n.now.front.now ++ n.now.back.now)))
-        (number (d.now.front.now ++ d.now.back.now))) → ⊥) }
+    ensures none { IfNone result (Fits wide_limit (ratio (pos (number (bytes_of n.now)))
+        (number (bytes_of d.now))) → ⊥) }
 {
     let mut above = Quotient { num: 1, den: 0 };
     let mut below = Quotient { num: 0, den: 1 };

@@ -1,6 +1,7 @@
 -- What the steps over a text keep: words for the private functions alone.
 use Rattle.std.specs.Prelude.{◌≡◌, ℕ, suc, ◌+◌, ◌≤◌, ◌<◌, Bool, true, false, ◌||◌, ◌==◌, List, [], ◌∷◌, length, slice_index}
 use Rattle.sexpr_text.specs.declared.token.Token.{Token}
+use Rattle.sexpr_text.specs.declared.scan.Scanner.{Scanner}
 use Rattle.sexpr_text.specs.declared.bytes.Piece.{Piece}
 use Rattle.sexpr_text.specs.declared.bytes.Piece.TheVariants.{Gap, Open, Close, Run}
 use Rattle.sexpr_text.specs.Comments.{is_blank, is_parenthesis, in_comment, in_run, opens_at, closes_at, NothingWritten}
@@ -57,6 +58,10 @@ pub record Scanned (text : List ℕ) (at depth outer : ℕ) (tokens : List Token
   pub spans : AreSpans text 0 at tokens
   pub numbered : AreNumbered 0 tokens
   pub heights : Heights text at depth outer
+
+-- the scanner has come so far
+abbrev pub HasScanned : List ℕ → Scanner → Type 0
+HasScanned text scanner = Scanned text scanner.at scanner.depth scanner.outermost scanner.tokens.items
 
 -- these are the tokens of the text, but for the mates, and the text has no fault
 pub record AreUnmated (text : List ℕ) (tokens : List Token) : Type 0 where

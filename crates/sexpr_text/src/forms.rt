@@ -142,13 +142,16 @@ pub fn read_forms(alloc: Global, text: &[u8]) -> Result<Forms, LexFault>
 
 /// A text has at most one list of tokens.
 pub fn tokens_are_one()
-    ensures { (text : List ℕ) (tokens others : List Token) → AreTokens text tokens → AreTokens text others → tokens ≡ others }
+    ensures { (text : List ℕ) (tokens others : List Token)
+        → AreTokens text tokens → AreTokens text others → tokens ≡ others }
 {}
 
 /// A text that has tokens has no fault, and no text has two first faults.
 pub fn fault_is_one()
-    ensures none { (text : List ℕ) (tokens : List Token) (wrong : LexFault) → AreTokens text tokens → IsFault text wrong → ⊥ }
-    ensures one { (text : List ℕ) (wrong other : LexFault) → IsFirstFault text wrong → IsFirstFault text other → wrong ≡ other }
+    ensures none { (text : List ℕ) (tokens : List Token) (wrong : LexFault)
+        → AreTokens text tokens → IsFault text wrong → ⊥ }
+    ensures one { (text : List ℕ) (wrong other : LexFault)
+        → IsFirstFault text wrong → IsFirstFault text other → wrong ≡ other }
 {}
 
 /// A byte is in a comment where a semicolon stands at it or before it with no line feed from there up to it.

@@ -22,7 +22,7 @@ ghost use Rattle.sexpr_text.specs.Comments.{opens_at, closes_at, NothingWritten}
 ghost use Rattle.sexpr_text.specs.Runs.{IsRun};
 ghost use Rattle.sexpr_text.specs.Lists.{opened, closed};
 ghost use Rattle.sexpr_text.specs.LexFault.{IsFault, IsFirstFault, MayRefuse, place_of, run_fault};
-ghost use Rattle.sexpr_text.specs.Scan.{IsClear, Scanned, AreUnmated, AllClose, StaysOpen};
+ghost use Rattle.sexpr_text.specs.Scan.{IsClear, HasScanned, AreUnmated, AllClose, StaysOpen};
 
 use crate::bytes::{Piece, piece_at};
 use crate::fault::LexFault;
@@ -100,7 +100,7 @@ impl Scanner {
     /// The first fault of the text, where the fault here is the first that can be told before the text's end.
     fn first_fault(&self, text: &[u8], fault: LexFault) -> LexFault
         requires small { length text.now < 2 ^ 32 }
-        requires scanned { Scanned text.now self.now.at self.now.depth self.now.outermost self.now.tokens.items }
+        requires scanned { HasScanned text.now self.now }
         requires fault { IsFault text.now fault }
         requires here { place_of fault ≡ self.now.at }
         ensures { IsFirstFault text.now result }
@@ -135,10 +135,10 @@ impl Scanner {
 
     fn open_list(&mut self, text: &[u8]) -> Result<(), LexFault>
         requires small { length text.now < 2 ^ 32 }
-        requires scanned { Scanned text.now self.old.at self.old.depth self.old.outermost self.old.tokens.items }
+        requires scanned { HasScanned text.now self.old }
         requires opens { opens_at text.now self.old.at ≡ true }
         requires clear { IsClear text.now (suc self.old.at) }
-        ensures scanned { OnOk result (Scanned text.now self.new.at self.new.depth self.new.outermost self.new.tokens.items) }
+        ensures scanned { OnOk result (HasScanned text.now self.new) }
         ensures moves { OnOk result (self.new.at ≡ self.old.at + 1) }
         ensures fault { IfErr result (MayRefuse text.now) }
     {
@@ -156,10 +156,10 @@ impl Scanner {
 
     fn close_list(&mut self, text: &[u8]) -> Result<(), LexFault>
         requires small { length text.now < 2 ^ 32 }
-        requires scanned { Scanned text.now self.old.at self.old.depth self.old.outermost self.old.tokens.items }
+        requires scanned { HasScanned text.now self.old }
         requires closes { closes_at text.now self.old.at ≡ true }
         requires clear { IsClear text.now (suc self.old.at) }
-        ensures scanned { OnOk result (Scanned text.now self.new.at self.new.depth self.new.outermost self.new.tokens.items) }
+        ensures scanned { OnOk result (HasScanned text.now self.new) }
         ensures moves { OnOk result (self.new.at ≡ self.old.at + 1) }
         ensures fault { IfErr result (MayRefuse text.now) }
     {
@@ -174,11 +174,11 @@ impl Scanner {
 
     fn read_run(&mut self, text: &[u8], end: usize) -> Result<(), LexFault>
         requires small { length text.now < 2 ^ 32 }
-        requires scanned { Scanned text.now self.old.at self.old.depth self.old.outermost self.old.tokens.items }
+        requires scanned { HasScanned text.now self.old }
         requires run { IsRun text.now self.old.at end }
         requires within { end ≤ length text.now }
         requires clear { IsClear text.now end }
-        ensures scanned { OnOk result (Scanned text.now self.new.at self.new.depth self.new.outermost self.new.tokens.items) }
+        ensures scanned { OnOk result (HasScanned text.now self.new) }
         ensures moves { OnOk result (self.new.at ≡ end) }
         ensures fault { IfErr result (MayRefuse text.now) }
     {
@@ -194,9 +194,9 @@ impl Scanner {
     /// Goes on over what stands here.
     fn step(&mut self, text: &[u8]) -> Result<(), LexFault>
         requires small { length text.now < 2 ^ 32 }
-        requires scanned { Scanned text.now self.old.at self.old.depth self.old.outermost self.old.tokens.items }
+        requires scanned { HasScanned text.now self.old }
         requires more { self.old.at < length text.now }
-        ensures scanned { OnOk result (Scanned text.now self.new.at self.new.depth self.new.outermost self.new.tokens.items) }
+        ensures scanned { OnOk result (HasScanned text.now self.new) }
         ensures moves { OnOk result (self.old.at < self.new.at) }
         ensures fault { IfErr result (MayRefuse text.now) }
     {
