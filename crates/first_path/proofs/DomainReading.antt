@@ -11,7 +11,7 @@ use Rattle.first_path.specs.DomainText.{SpellsWith, IsDomain}
 use Rattle.first_path.proofs.DomainParts.{length-domain_parts, same_flags}
 
 -- the leaves of a domain with or without parameters are one list
-leaves-one : (text : List ℕ) (tokens : List Token) (b : Bool) (found others : List Token) → FitsDomain text tokens b found → FitsDomain text tokens b others → others ≡ found
+pub leaves-one : (text : List ℕ) (tokens : List Token) (b : Bool) (found others : List Token) → FitsDomain text tokens b found → FitsDomain text tokens b others → others ≡ found
 leaves-one text tokens b found others f g =
     g.2 ∙ ap (λ (flags : Option ℕ). leaves tokens (domain_parts flags b)) (same_flags g.0 f.0 b (sym (length-domain_parts g.0 b) ∙ sym g.1.as_many ∙ f.1.as_many ∙ length-domain_parts f.0 b)) ∙ sym f.2
 

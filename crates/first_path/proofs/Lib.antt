@@ -9,3 +9,5 @@ pub mod States
 pub mod Verdicts
 pub mod Uniqueness
 pub mod ProblemReading
+pub mod DomainUniqueness
+pub mod TaskUniqueness

@@ -20,10 +20,12 @@ pub data Reckoning : Type 0 where
   sum : ℚ → ℚ → Reckoning
   product : ℚ → ℚ → Reckoning
 
+-- the result is defined in 128 bits
 abbrev pub IsDefined : Reckoning → Type 0
 IsDefined (sum q r) = CanAdd wide_limit q r
 IsDefined (product q r) = CanMultiply wide_limit q r
 
+-- each of them is defined
 abbrev pub AreDefined : List Reckoning → Type 0
 AreDefined [] = Unit {0}
 AreDefined (r ∷ rs) = IsDefined r × AreDefined rs
@@ -33,6 +35,7 @@ pub record Stage : Type 0 where
   pub place : Undefined
   pub reckonings : List Reckoning
 
+-- the stage of a place
 abbrev pub stage : Undefined → List Reckoning → Stage
 stage p rs = record { place = p; reckonings = rs }
 
@@ -41,6 +44,7 @@ abbrev pub margin_of : Side → ℚ → ℚ → Reckoning
 margin_of AtMost limit v = sum limit (neg_ℚ v)
 margin_of AtLeast limit v = sum (neg_ℚ limit) v
 
+-- the margin of a value at a bound
 abbrev pub margin : Bound → ℚ → Reckoning
 margin b v = margin_of b.side b.limit v
 

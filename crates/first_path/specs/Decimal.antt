@@ -8,13 +8,16 @@ use Rattle.rational.specs.Rational.{ℚ, ratio, zeroℚ, neg_ℚ}
 abbrev pub number_from : List ℕ → ℕ
 number_from digits = fold (λ n digit. n * 10 + (digit - 48)) 0 digits
 
+-- the byte is a point
 abbrev pub is_point : ℕ → Bool
 is_point b = b == 46
 
+-- what stands before a place, or all
 abbrev pub before_place : Option ℕ → List ℕ → List ℕ
 before_place None run = run
 before_place (Some place) run = take place run
 
+-- what stands behind a place, or nothing
 abbrev pub behind_place : Option ℕ → List ℕ → List ℕ
 behind_place None run = []
 behind_place (Some place) run = drop (place + 1) run
@@ -38,6 +41,7 @@ pub record IsUnsigned (run : List ℕ) : Type 0 where
 abbrev pub digits_value : List ℕ → List ℕ → ℚ
 digits_value whole fraction = ratio (pos (number_from whole * 10 ^ length fraction + number_from fraction)) (10 ^ length fraction)
 
+-- the value of a number without a minus
 abbrev pub unsigned_value : List ℕ → ℚ
 unsigned_value run = digits_value (whole_part run) (fraction_part run)
 
@@ -46,6 +50,7 @@ abbrev pub IsDecimal : List ℕ → Type 0
 IsDecimal [] = ⊥
 IsDecimal (b ∷ run) = MatchBool (b == 45) (IsUnsigned run) (IsUnsigned (b ∷ run))
 
+-- the value of a number; 0 for no bytes
 abbrev pub decimal_value : List ℕ → ℚ
 decimal_value [] = zeroℚ
 decimal_value (b ∷ run) = if b == 45 then neg_ℚ (unsigned_value run) else unsigned_value (b ∷ run)

@@ -46,6 +46,7 @@ abbrev pub requirement_count : Option ℕ → ℕ
 requirement_count None = 0
 requirement_count (Some flags) = flags + 3
 
+-- how many parts the parameters add
 abbrev pub parameter_count : Bool → ℕ
 parameter_count true = 3
 parameter_count false = 0

@@ -72,6 +72,7 @@ pub record Fits (text : List ℕ) (ts : List Token) (ps : List Part) : Type 0 wh
   pub as_many : length ts ≡ length ps
   pub each : (k : ℕ) (t : Token) (p : Part) → k < length ps → Fit text (slice_index_or ts k t) (slice_index_or ps k p)
 
+-- the part is a leaf
 abbrev pub is_leaf : Part → Bool
 is_leaf (Fixed w) = false
 is_leaf (Leaf kind) = true

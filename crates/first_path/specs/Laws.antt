@@ -1,5 +1,8 @@
 -- Why the validator's answers come exactly where they are right.
-use Rattle.std.specs.Prelude.{◌≡◌, List}
+use Rattle.std.specs.Prelude.{◌≡◌, ℕ, List}
+use Rattle.first_path.specs.declared.domains.Domain.{Domain}
+use Rattle.first_path.specs.DomainText.{IsDomain}
+use Rattle.first_path.specs.Problem.{IsProblem}
 use Rattle.first_path.specs.declared.model.Task.{Task}
 use Rattle.first_path.specs.declared.model.PlanLine.{PlanLine}
 use Rattle.first_path.specs.declared.model.Rules.{Rules}
@@ -24,3 +27,22 @@ PlacesExcludeReckoning = (ss : List Stage) (p : Undefined) → IsFirstUndefined 
 -- a course has one first undefined place
 abbrev pub PlacesAreOne : Type 0
 PlacesAreOne = (ss : List Stage) (p q : Undefined) → IsFirstUndefined ss p → IsFirstUndefined ss q → p ≡ q
+
+-- the same names, letter by letter, and the same numbers
+pub record SameDomain (d e : Domain) : Type 0 where
+  pub same_name : d.name.items ≡ e.name.items
+  pub same_fluent : d.fluent.items ≡ e.fluent.items
+  pub same_action : d.action.items ≡ e.action.items
+  pub same_duration : d.duration ≡ e.duration
+  pub same_side : d.over_all.side ≡ e.over_all.side
+  pub same_limit : d.over_all.limit ≡ e.over_all.limit
+  pub same_direction : d.direction ≡ e.direction
+  pub same_rate : d.rate ≡ e.rate
+
+-- a text is one domain at most
+abbrev pub DomainsAreOne : Type 0
+DomainsAreOne = (text : List ℕ) (d e : Domain) → IsDomain text d → IsDomain text e → SameDomain d e
+
+-- a text is one problem of a domain at most, and makes one task
+abbrev pub TasksAreOne : Type 0
+TasksAreOne = (text : List ℕ) (d : Domain) (t u : Task) → IsProblem text d t → IsProblem text d u → t ≡ u

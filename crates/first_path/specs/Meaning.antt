@@ -19,6 +19,7 @@ abbrev pub signed : Direction → ℚ → ℚ
 signed Increase r = r
 signed Decrease r = neg_ℚ r
 
+-- the action's change of the fluent in a unit of time
 abbrev pub slope : Task → ℚ
 slope task = signed task.direction task.rate
 
@@ -39,5 +40,6 @@ abbrev pub is_on_side : Side → ℚ → ℚ → Type 0
 is_on_side AtMost limit v = v ≤ℚ limit
 is_on_side AtLeast limit v = limit ≤ℚ v
 
+-- the value meets the bound
 abbrev pub Meets : Bound → ℚ → Type 0
 Meets b v = is_on_side b.side b.limit v

@@ -1,7 +1,7 @@
 //! What holds of every task and every plan.
 
 ghost use Rattle.std.specs.Prelude.{◌≡◌};
-ghost use Rattle.first_path.specs.Laws.{ReasonsExcludeValidity, VerdictsAreOne, PlacesAreOne, PlacesExcludeReckoning};
+ghost use Rattle.first_path.specs.Laws.{ReasonsExcludeValidity, VerdictsAreOne, PlacesAreOne, PlacesExcludeReckoning, DomainsAreOne, TasksAreOne};
 
 /// A plan has one verdict at most: it is not both valid and invalid, and has one first reason.
 pub fn verdicts_are_one()
@@ -13,4 +13,10 @@ pub fn verdicts_are_one()
 pub fn places_are_one()
     ensures exclusive { PlacesExcludeReckoning }
     ensures one { PlacesAreOne }
+{}
+
+/// A text is one domain at most, and one problem of a domain at most.
+pub fn texts_are_one()
+    ensures domains { DomainsAreOne }
+    ensures tasks { TasksAreOne }
 {}
