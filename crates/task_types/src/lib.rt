@@ -33,7 +33,6 @@ pub use task::Task;
 pub use tokens::{Token, Touch};
 
 // What workers share is sent and shared between threads.
-#[allow(dead_code)]
 fn all_cross_threads() {
     crosses_threads::<Rules>();
     crosses_threads::<Condition>();
@@ -43,6 +42,8 @@ fn all_cross_threads() {
     crosses_threads::<Trail>();
     crosses_threads::<Soft>();
     crosses_threads::<Metric>();
+    crosses_threads::<TaskParts>();
+    crosses_threads::<Task>();
 }
 
 fn crosses_threads<T: Send + Sync>() {}

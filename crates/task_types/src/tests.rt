@@ -2,7 +2,10 @@ ghost use Rattle.std.specs.Prelude.{◌≡◌, ◌∷◌, [], IfOk, List, ℕ, t
 ghost use Rattle.rational.specs.Rational.{ratio};
 ghost use Rattle.task_types.specs.Examples.{flags, schema as schema_of, instant as instant_of, unset as unset_of, at_once as at_once_of, always_true as always, fact_holds, makes, by_time as by_last_time};
 
-use crate::{Action, Condition, Effect, Fact, Literal, Metric, Schema, Snap, SnapKind, Task, TaskParts, Touch};
+use crate::{
+    Action, Condition, Effect, Fact, Literal, Metric, Schema, Snap, SnapKind, Task, TaskParts,
+    Touch,
+};
 use exact_lin::{ActionId, FactId, Form, Fraction, Id, NoMemory, Scalar, SnapId};
 use sqlite_items::Items;
 use std::alloc::Global;
@@ -58,7 +61,12 @@ fn both<T: Drop>(alloc: Global, one: T, other: T) -> Result<Items<T>, NoMemory>
     Ok(items)
 }
 
-fn at_once(alloc: Global, action: ActionId, condition: Condition, added: FactId) -> Result<Snap, NoMemory>
+fn at_once(
+    alloc: Global,
+    action: ActionId,
+    condition: Condition,
+    added: FactId,
+) -> Result<Snap, NoMemory>
     ensures { IfOk result (λ snap. snap ≡ at_once_of action condition (makes added)) }
 {
     let mut adds = Items::new(alloc);
@@ -109,8 +117,16 @@ fn flags_parts(alloc: Global) -> Result<TaskParts, NoMemory>
         schemas: both(alloc, schema(alloc, b"set")?, schema(alloc, b"use")?)?,
         facts: both(alloc, unset(alloc, b"p")?, unset(alloc, b"q")?)?,
         fluents: Items::new(alloc),
-        actions: both(alloc, instant(alloc, b"set", SnapId::of(0))?, instant(alloc, b"use", SnapId::of(1))?)?,
-        snaps: both(alloc, at_once(alloc, ActionId::of(0), first, FactId::of(0))?, at_once(alloc, ActionId::of(1), second, FactId::of(1))?)?,
+        actions: both(
+            alloc,
+            instant(alloc, b"set", SnapId::of(0))?,
+            instant(alloc, b"use", SnapId::of(1))?,
+        )?,
+        snaps: both(
+            alloc,
+            at_once(alloc, ActionId::of(0), first, FactId::of(0))?,
+            at_once(alloc, ActionId::of(1), second, FactId::of(1))?,
+        )?,
         timed: Items::new(alloc),
         goal: asks(alloc, FactId::of(1))?,
         hard: Items::new(alloc),
@@ -137,9 +153,17 @@ fn a_task_tells_its_parts_and_touches(rt: HostRuntime) {
     ];
     assert_eq!(&rt; lengths, [0, 2, 2, 0, 2, 2, 0, 1, 0, 0]);
     assert!(&rt; task.metric().last == Fraction::of_int(1));
-    let touches = [(0, 0, 0, Touch::Mark), (1, 0, 0, Touch::Look), (1, 1, 1, Touch::Mark)];
+    let touches = [
+        (0, 0, 0, Touch::Mark),
+        (1, 0, 0, Touch::Look),
+        (1, 1, 1, Touch::Mark),
+    ];
     for (snap, place, token, touch) in touches {
-        let entry = task.touches(SnapId::of(snap)).get(place).copied().expect(&rt, "a touch");
+        let entry = task
+            .touches(SnapId::of(snap))
+            .get(place)
+            .copied()
+            .expect(&rt, "a touch");
         assert!(&rt; entry.0.number() == token && entry.1 == touch);
     }
 }
