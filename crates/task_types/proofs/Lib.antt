@@ -26,6 +26,7 @@ pub mod Found
 pub mod LastEntries
 pub mod TouchRows
 pub mod FewTokens
+pub mod Crossing
 pub mod Duties
 pub mod Verdicts
 pub mod Sorting

@@ -15,6 +15,8 @@ mod reads;
 mod snapshot;
 mod tables;
 mod task;
+#[cfg(test)]
+mod tests;
 mod tokens;
 mod touching;
 
@@ -29,3 +31,19 @@ pub use plans::{PlanLine, Reason};
 pub use snapshot::Snapshot;
 pub use task::Task;
 pub use tokens::{Token, Touch};
+
+// What workers share is sent and shared between threads.
+fn all_cross_threads() {
+    crosses_threads::<Rules>();
+    crosses_threads::<Condition>();
+    crosses_threads::<Snap>();
+    crosses_threads::<Action>();
+    crosses_threads::<FactTree>();
+    crosses_threads::<Trail>();
+    crosses_threads::<Soft>();
+    crosses_threads::<Metric>();
+    crosses_threads::<TaskParts>();
+    crosses_threads::<Task>();
+}
+
+fn crosses_threads<T: Send + Sync>() {}
