@@ -1,6 +1,8 @@
 -- What the tests of the validator say of a plan.
-use Rattle.std.proofs.Common.{◌≡◌, ◌↔◌, IsTrue, refl, subst, Bool, true, false, not}
-use Rattle.rational.specs.Rational.{ℚ, zeroℚ, ◌<ℚ◌}
+use Rattle.std.proofs.Common.{◌≡◌, ◌↔◌, IsTrue, refl, sym, subst, arith, pos, Bool, true, false, not}
+use Rattle.rational.specs.Rational.{ℚ, ratio, zeroℚ, ◌<ℚ◌}
+use Rattle.std.proofs.lemmas.Int.{ints}
+use Rattle.rational.proofs.Order.{positive_in}
 use Rattle.rational.proofs.Inequalities.{lt_le_transℚ}
 use Rattle.first_path.specs.declared.model.Task.{Task}
 use Rattle.first_path.specs.declared.model.PlanLine.{PlanLine}
@@ -23,3 +25,7 @@ stays rules task l c h a b = (a, subst (λ (z : ℚ). IsInTime rules z) h.ends b
 -- a plan whose duration fits has an action that runs
 pub condition_told : (rules : Rules) (task : Task) (l : PlanLine) (c : Course) → zeroℚ <ℚ rules.epsilon → FitsDuration rules task l → Tells task l c → IsTrue c.over_all ↔ HoldsOverAll task l
 condition_told rules task l c e f h = h.condition (lt_le_transℚ zeroℚ rules.epsilon l.duration e f.0)
+
+-- a thousandth is above 0
+pub thousandth-positive : (q : ℚ) → q ≡ ratio (pos 1) 1000 → zeroℚ <ℚ q
+thousandth-positive q e = subst (λ (z : ℚ). zeroℚ <ℚ z) (sym e) (positive_in (pos 1) 1000 (omega arith) (omega (arith, ints)))

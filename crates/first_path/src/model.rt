@@ -1,7 +1,7 @@
 //! The task, the plan line, and what a validator answers.
 
 ghost use Rattle.std.specs.Prelude.{◌≡◌, pos};
-ghost use Rattle.rational.specs.Rational.{ratio};
+ghost use Rattle.rational.specs.Rational.{ratio, zeroℚ, ◌<ℚ◌};
 
 use exact_lin::Fraction;
 
@@ -55,14 +55,21 @@ pub struct Rules {
     pub horizon: Fraction,
 }
 
+fn thousandth() -> Fraction
+    ensures { result ≡ ratio (pos 1) 1000 }
+{
+    Fraction::of_parts(1, 1000).unwrap()
+}
+
 impl Rules {
     /// Epsilon is 1/1000, and the horizon 1,000,000.
     pub fn standard() -> Rules
         ensures epsilon { result.epsilon ≡ ratio (pos 1) 1000 }
         ensures horizon { result.horizon ≡ ratio (pos 1000000) 1 }
+        ensures positive { zeroℚ <ℚ result.epsilon }
     {
         Rules {
-            epsilon: Fraction::of_parts(1, 1000).unwrap(),
+            epsilon: thousandth(),
             horizon: Fraction::of_parts(1_000_000, 1).unwrap(),
         }
     }

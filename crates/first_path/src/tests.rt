@@ -1,6 +1,6 @@
 use crate::{
-    Bound, Direction, PlanLine, Reason, Rules, Side, Task, Undefined, Verdict, read_domain,
-    read_problem, validate,
+    Bound, Direction, PlanLine, Reason, Rules, Side, Task, Verdict, read_domain, read_problem,
+    validate,
 };
 use exact_lin::Fraction;
 use std::alloc::{AllocError, Global};
@@ -107,6 +107,10 @@ fn accepts_and_refuses_domains(rt: HostRuntime) {
             false,
             "(define (domain d) (:functions (f)) (:durative-action a :duration (= ?duration 1) :condition (over all (<= (f) 1)) :effect (increase (f) (* #t 1)))",
         ),
+        (
+            false,
+            "(define (domain d) (:functions (f)) (:durative-action a :duration (= ?duration 1) :condition (over all (<= (f) 1)) :effect (increase (f) (* #t 1))) (:durative-action b :duration (= ?duration 1) :condition (over all (<= (f) 1)) :effect (increase (f) (* #t 1))))",
+        ),
         (false, ""),
     ];
     for (accepted, text) in rest {
@@ -118,20 +122,74 @@ fn accepts_and_refuses_domains(rt: HostRuntime) {
 }
 
 #[test]
+fn accepts_and_refuses_problems(rt: HostRuntime) {
+    let rows = [
+        (true, PROBLEM),
+        (
+            true,
+            "(DEFINE (problem p) (:DOMAIN Tank) ; a comment\n (:init (= (LEVEL) 1.)) (:goal (<= (level) .5)))",
+        ),
+        (
+            false,
+            "(define (problem p) (:domain other) (:init (= (level) 0)) (:goal (>= (level) 10)))",
+        ),
+        (
+            false,
+            "(define (problem p) (:domain tank) (:init (= (level) 0)) (:goal (>= (height) 10)))",
+        ),
+        (
+            false,
+            "(define (problem p) (:domain tank) (:init) (:goal (>= (level) 10)))",
+        ),
+        (
+            false,
+            "(define (problem p) (:domain tank) (:init (= (level) 0)) (:goal (>= (level) 10))",
+        ),
+    ];
+    for (accepted, text) in rows {
+        match task_of(rt.alloc(), TANK, text) {
+            Ok(task) => assert_eq!(rt; task.is_some(), accepted, "{text}"),
+            Err(_) => panic!(rt; "memory"),
+        }
+    }
+}
+
+fn fails_over_all() -> Verdict {
+    Verdict::Invalid(Reason::OverAll {
+        from: ratio(0, 1),
+        to: ratio(5, 1),
+    })
+}
+
+// It is emptied, and must not fall below 0.
+fn draining(initial: Fraction, rate: Fraction, duration: Fraction) -> Task {
+    Task {
+        initial,
+        duration,
+        direction: Direction::Decrease,
+        rate,
+        over_all: Bound {
+            side: Side::AtLeast,
+            limit: ratio(0, 1),
+        },
+        goal: Bound {
+            side: Side::AtMost,
+            limit: ratio(10, 1),
+        },
+    }
+}
+
+#[test]
 fn judges_plans(rt: HostRuntime) {
     let at = |start: i32, duration: i32, den: i32| PlanLine {
         start: ratio(start, den),
         duration: ratio(duration, den),
     };
-    let over_all = Reason::OverAll {
-        from: ratio(0, 1),
-        to: ratio(5, 1),
-    };
     let rows = [
         // the level touches its bound at the end
         (tank(0), at(0, 5, 1), Verdict::Valid(ratio(5, 1))),
         (tank(0), at(7, 10, 2), Verdict::Valid(ratio(17, 2))),
-        (tank(1), at(0, 5, 1), Verdict::Invalid(over_all)),
+        (tank(1), at(0, 5, 1), fails_over_all()),
         (tank(-1), at(0, 5, 1), Verdict::Invalid(Reason::Goal)),
         (tank(0), at(0, 4, 1), Verdict::Invalid(Reason::Duration)),
         (tank(0), at(0, 0, 1), Verdict::Invalid(Reason::Duration)),
@@ -145,6 +203,50 @@ fn judges_plans(rt: HostRuntime) {
         (tank(0), at(999_996, 5, 1), Verdict::Invalid(Reason::Time)),
         (tank(1), at(-1, 4, 1), Verdict::Invalid(Reason::Time)),
         (tank(1), at(0, 4, 1), Verdict::Invalid(Reason::Duration)),
+        // the level falls to its bound, and past it
+        (
+            draining(ratio(10, 1), ratio(2, 1), ratio(5, 1)),
+            at(0, 5, 1),
+            Verdict::Valid(ratio(5, 1)),
+        ),
+        (
+            draining(ratio(9, 1), ratio(2, 1), ratio(5, 1)),
+            at(0, 5, 1),
+            fails_over_all(),
+        ),
+        (
+            draining(ratio(1, 2), ratio(1, 10), ratio(5, 1)),
+            at(1, 10, 2),
+            Verdict::Valid(ratio(11, 2)),
+        ),
+        // it begins past its bound, and rises to it
+        (
+            draining(ratio(-1, 2), ratio(-1, 10), ratio(5, 1)),
+            at(0, 5, 1),
+            fails_over_all(),
+        ),
+        // it stays at its bound
+        (
+            draining(ratio(0, 1), ratio(0, 1), ratio(5, 1)),
+            at(0, 5, 1),
+            Verdict::Valid(ratio(5, 1)),
+        ),
+        (
+            draining(ratio(31, 2), ratio(1, 1), ratio(5, 1)),
+            at(0, 5, 1),
+            Verdict::Invalid(Reason::Goal),
+        ),
+        // durations of epsilon, and below
+        (
+            draining(ratio(1, 1), ratio(1, 1), ratio(1, 1000)),
+            at(0, 1, 1000),
+            Verdict::Valid(ratio(1, 1000)),
+        ),
+        (
+            draining(ratio(1, 1), ratio(1, 1), ratio(1, 1001)),
+            at(0, 1, 1001),
+            Verdict::Invalid(Reason::Duration),
+        ),
     ];
     for (task, line, verdict) in rows {
         match validate(&Rules::standard(), &task, &line) {
