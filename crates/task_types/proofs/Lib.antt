@@ -27,6 +27,7 @@ pub mod LastEntries
 pub mod TouchRows
 pub mod FewTokens
 pub mod Crossing
+pub mod Meetings
 pub mod Duties
 pub mod Verdicts
 pub mod Sorting

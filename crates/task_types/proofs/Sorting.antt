@@ -14,18 +14,10 @@ use Rattle.task_types.specs.declared.orderings.Link.{Link}
 use Rattle.task_types.specs.declared.orderings.Link.TheVariants.{Free, Weak, Apart}
 use Rattle.task_types.specs.Order.{link}
 use Rattle.task_types.specs.Agreement.{link_holds, are_linked}
+use Rattle.task_types.specs.Laws.{put_by_time, by_time, SortingKeepsLinks}
 use Rattle.task_types.proofs.Comparisons.{le_out, later_out, lt_le_absurd}
 use Rattle.task_types.proofs.Everyone.{and_left, and_right, and_in}
 use Rattle.task_types.proofs.Links.{link_comm}
-
--- a step put before the first that isn't earlier
-abbrev pub put_by_time : ℕ × ℚ → List (ℕ × ℚ) → List (ℕ × ℚ)
-put_by_time p [] = p ∷ []
-put_by_time p (q ∷ qs) = cond (p.1 ≤? q.1) (p ∷ q ∷ qs) (q ∷ put_by_time p qs)
-
-abbrev pub by_time : List (ℕ × ℚ) → List (ℕ × ℚ)
-by_time [] = []
-by_time (p ∷ ps) = put_by_time p (by_time ps)
 
 abbrev holds_of : TaskParts → Rules → ℕ × ℚ → ℕ × ℚ → Bool
 holds_of task rules p q = link_holds rules (link task (snap_of task p.0) (snap_of task q.0)) p.1 q.1
@@ -67,3 +59,6 @@ linked-by_time task rules [] e h = refl
 linked-by_time task rules (p ∷ ps) e h = linked_put task rules p (by_time ps) e
     (all_sorted (holds_of task rules p) ps (and_left (list_all (holds_of task rules p) ps) (are_linked task rules ps) h))
     (linked-by_time task rules ps e (and_right (list_all (holds_of task rules p) ps) (are_linked task rules ps) h))
+
+pub sorting_keeps_links : SortingKeepsLinks
+sorting_keeps_links task rules ps e h = linked-by_time task rules ps e h

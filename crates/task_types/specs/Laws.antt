@@ -1,7 +1,7 @@
 -- What the definitions are to satisfy, besides what they say: laws that show them to be the ones that are meant.
-use Rattle.std.specs.Prelude.{ℕ, suc, ◌<◌, ◌≤◌, ◌≡◌, ◌⊎◌, ◌↔◌, Bool, true, false, not, ◌&&◌, ◌||◌, if◌then◌else◌, IsTrue, List, [], ◌∷◌, map, length, Contains, Some}
+use Rattle.std.specs.Prelude.{ℕ, suc, ◌<◌, ◌≤◌, ◌≡◌, ◌⊎◌, ◌↔◌, Bool, true, false, not, ◌&&◌, ◌||◌, ◌==◌, if◌then◌else◌, IsTrue, List, [], ◌∷◌, map, length, Contains, Some, cond}
 use Rattle.std.specs.List.{AllByRecursion, list_all, list_any, flat_map}
-use Rattle.rational.specs.Rational.{ℚ, zeroℚ, ◌<ℚ◌}
+use Rattle.rational.specs.Rational.{ℚ, zeroℚ, ◌≤ℚ◌, ◌<ℚ◌}
 use Rattle.task_types.specs.declared.actions.Snap.{Snap}
 use Rattle.task_types.specs.declared.conditions.Condition.{Condition}
 use Rattle.task_types.specs.declared.parts.Rules.{Rules}
@@ -17,8 +17,12 @@ use Rattle.task_types.specs.Plan.{Plan, Step, IsFormed, steps, happenings}
 use Rattle.task_types.specs.Course.{count, time_of, state_before, state_after, before, after, steps_at, entries_of, effect_of, amount, increased, happen, rate, moved}
 use Rattle.task_types.specs.Clash.{clash}
 use Rattle.task_types.specs.Valid.{Valid, HoldsWithin, IsFirstReason}
+use Rattle.task_types.specs.declared.orderings.Link.TheVariants.{Free, Weak, Apart}
+use Rattle.task_types.specs.declared.tokens.Touch.{Touch}
+use Rattle.task_types.specs.declared.tokens.Touch.TheVariants.{Look, Mark, Bend}
+use Rattle.task_types.specs.Touch.{is_timed, touches_of}
 use Rattle.task_types.specs.Order.{link}
-use Rattle.task_types.specs.Agreement.{SameLines}
+use Rattle.task_types.specs.Agreement.{SameLines, are_linked}
 use Rattle.task_types.specs.Cost.{cost, late_value, piece_value}
 use Rattle.task_types.specs.Reckoned.{Reckoning, outcome, sums, amount_reckoned, assigned_value, rate_reckoned, move_of, late_reckoned, piece_reckoned, cost_reckoned}
 use Rattle.task_types.specs.declared.conditions.Amount.{Amount}
@@ -135,3 +139,44 @@ pub record ReckoningsEndAtTheValue : Type 0 where
   pub time_costs : (c : LateCost) (m : ℚ) → IsTrue (not ((m ≤? c.soft) || (c.hard ≤? m))) → ends_at zeroℚ (late_reckoned c (Some m)) ≡ late_value c (Some m)
   pub pieces : (lower : ℚ) (p : Piece) (m : ℚ) → ends_at zeroℚ (piece_reckoned lower p m) ≡ piece_value lower p m
   pub costs : (task : TaskParts) (plan : Plan) → ends_at zeroℚ (cost_reckoned task plan) ≡ cost task plan
+
+-- ---- links by touches
+
+-- one touch marks and the other marks or looks
+abbrev pub marks_apart : Touch → Touch → Bool
+marks_apart Mark Mark = true
+marks_apart Mark Look = true
+marks_apart Look Mark = true
+marks_apart _ _ = false
+
+-- one touch bends
+abbrev pub bends_one : Touch → Touch → Bool
+bends_one Bend _ = true
+bends_one _ Bend = true
+bends_one _ _ = false
+
+-- two touches of one token pass a test, for some touch of each of two lists
+abbrev pub some_meeting : (Touch → Touch → Bool) → List (ℕ × Touch) → List (ℕ × Touch) → Bool
+some_meeting test xs ys = list_any (λ x. list_any (λ y. (x.0 == y.0) && test x.1 y.1) ys) xs
+
+-- The link of two snap actions is read off their touches: Apart where one marks a token that the other marks or looks at, else Weak where one bends a token that the other touches, else Free.
+abbrev pub LinksByTouches : Type 0
+LinksByTouches = (task : TaskParts) (x y : Snap)
+    → link task x y ≡ (if is_timed x.kind && is_timed y.kind then Free
+    else (if some_meeting marks_apart (touches_of task x) (touches_of task y) then Apart
+    else (if some_meeting bends_one (touches_of task x) (touches_of task y) then Weak else Free)))
+
+-- ---- sorting by time
+
+-- a step put before the first that isn't earlier
+abbrev pub put_by_time : ℕ × ℚ → List (ℕ × ℚ) → List (ℕ × ℚ)
+put_by_time p [] = p ∷ []
+put_by_time p (q ∷ qs) = cond (p.1 ≤? q.1) (p ∷ q ∷ qs) (q ∷ put_by_time p qs)
+
+abbrev pub by_time : List (ℕ × ℚ) → List (ℕ × ℚ)
+by_time [] = []
+by_time (p ∷ ps) = put_by_time p (by_time ps)
+
+-- Steps whose links hold may be sorted by time, ties in their order, and their links still hold.
+abbrev pub SortingKeepsLinks : Type 0
+SortingKeepsLinks = (task : TaskParts) (rules : Rules) (ps : List (ℕ × ℚ)) → zeroℚ ≤ℚ rules.epsilon → IsTrue (are_linked task rules ps) → IsTrue (are_linked task rules (by_time ps))

@@ -1,7 +1,7 @@
 //! Laws of the definitions: each function does nothing, and its contract is the law.
 
 ghost use Rattle.task_types.specs.Examples.{TasksAreWellMade, CoursesComeOut, ClashesComeOut, CostsComeOut, OrderingsComeOut, TouchesComeOut};
-ghost use Rattle.task_types.specs.Laws.{OneListOfHappenings, SegmentsGoByTheirEnds, ValidOrOneReason, BothWaysRound, LinesInAnyOrder, ConstraintsAlongTheTrace, ReckoningsEndAtTheValue};
+ghost use Rattle.task_types.specs.Laws.{OneListOfHappenings, SegmentsGoByTheirEnds, ValidOrOneReason, BothWaysRound, LinesInAnyOrder, ConstraintsAlongTheTrace, ReckoningsEndAtTheValue, LinksByTouches, SortingKeepsLinks};
 
 /// The happenings of a plan are the one ascending list of the times of its steps.
 pub fn one_list_of_happenings()
@@ -46,4 +46,14 @@ pub fn examples_come_out()
     ensures costs { CostsComeOut }
     ensures orderings { OrderingsComeOut }
     ensures touches { TouchesComeOut }
+{}
+
+/// The link of two snap actions can be read off their touches.
+pub fn links_by_touches()
+    ensures { LinksByTouches }
+{}
+
+/// The steps of an ordering may be sorted by time without losing agreement, since links are the same both ways round.
+pub fn sorting_keeps_links()
+    ensures { SortingKeepsLinks }
 {}
