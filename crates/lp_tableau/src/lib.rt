@@ -1,0 +1,17 @@
+//! The simplex method over exact numbers, on dense dictionaries.
+#![tactic(auto)]
+
+mod dictionary;
+mod numbers;
+mod outcome;
+mod pivot;
+mod results;
+mod rows;
+mod rules;
+mod start;
+mod tableau;
+mod turn;
+mod walk;
+
+pub use dictionary::Dictionary;
+pub use outcome::Outcome;
