@@ -19,3 +19,4 @@ pub mod Certificates
 pub mod LookedUp
 pub mod ResultSteps
 pub mod FarkasPlaces
+pub mod Uniqueness

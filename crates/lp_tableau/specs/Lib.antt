@@ -10,3 +10,4 @@ pub mod Outcomes
 pub mod Assignments
 pub mod Multipliers
 pub mod Lookups
+pub mod Laws

@@ -1,6 +1,7 @@
 //! The simplex method over exact numbers, on dense dictionaries.
 #![tactic(auto)]
 
+pub mod chain_laws;
 mod dictionary;
 mod numbers;
 mod outcome;
