@@ -11,3 +11,4 @@ pub mod Assignments
 pub mod Multipliers
 pub mod Lookups
 pub mod Laws
+pub mod TwoVariables

@@ -68,6 +68,8 @@ impl<R: Id, V: Id, S: Scalar> Dictionary<R, V, S> {
     pub fn solve(&mut self, budget: u64) -> Outcome
         ensures outcome { IsOutcome S.limit self.old budget self.new result }
         ensures stands { (p : Program) → StandsFor p self.old → StandsFor p self.new }
+        ensures variables { length self.new.nonbasic ≡ length self.old.nonbasic }
+        ensures rows { length self.new.rows ≡ length self.old.rows }
     {
         walk(&mut self.tableau, &mut self.room, budget)
     }

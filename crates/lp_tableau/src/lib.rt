@@ -11,6 +11,8 @@ mod rows;
 mod rules;
 mod start;
 mod tableau;
+#[cfg(test)]
+mod tests;
 mod turn;
 mod walk;
 
