@@ -1,0 +1,7 @@
+use Rattle.std.proofs.Common.{◌≡◌, map, take}
+use Rattle.rational.specs.Rational.{neg_ℚ}
+use Rattle.cert_core.specs.Programs.{row_at}
+use Rattle.lp_tableau.proofs.start.slack.Given as goal
+
+abbrev pub invariant-loop-v : goal.invariant-loop-v
+invariant-loop-v g l = map g.S.Scalar.value l.row.items ≡ take l.v (map neg_ℚ (row_at (g.P.Rows.program l.program).rows (g.R.Id.number_of l.r)).factors)

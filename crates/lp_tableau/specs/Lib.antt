@@ -1,0 +1,14 @@
+pub mod Places
+pub mod Dictionaries
+pub mod RowLists
+pub mod Tableaus
+pub mod Pivots
+pub mod Chains
+pub mod Turns
+pub mod Meanings
+pub mod Outcomes
+pub mod Assignments
+pub mod Multipliers
+pub mod Lookups
+pub mod Laws
+pub mod TwoVariables

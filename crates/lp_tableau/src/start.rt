@@ -1,0 +1,119 @@
+//! The first dictionary of a program.
+
+ghost use Rattle.std.specs.Prelude.{◌≡◌, ℕ, ◌+◌, ◌<◌, ◌^◌, length, map, IfOk, ◌++◌, ◌∷◌, []};
+ghost use Rattle.std.specs.List.{range_with_len};
+ghost use Rattle.cert_core.specs.Programs.{row_at};
+ghost use Rattle.lp_tableau.specs.Dictionaries.{initial, slack_row};
+ghost use Rattle.lp_tableau.specs.RowLists.{shown_rows, HaveWidth};
+ghost use Rattle.lp_tableau.specs.Tableaus.{AreEven, IsRoomFor, dictionary_of};
+
+use crate::pivot::Room;
+use crate::tableau::Tableau;
+use cert_core::Rows;
+use exact_lin::{Id, NoMemory, Scalar};
+use std::alloc::Global;
+
+// `count` numbers from `start` on.
+fn numbers(alloc: Global, start: usize, count: usize) -> Result<Vec<usize>, NoMemory>
+    requires { start + count < 2 ^ 64 }
+    ensures { IfOk result (λ v. v.items ≡ range_with_len start count) }
+{
+    let mut numbers = Vec::new(alloc);
+    for k in 0..count {
+        numbers.push(start + k)?;
+    }
+    Ok(numbers)
+}
+
+// The row of a slack: the bound less the row's factors times the variables.
+fn slack<R: Id, V: Id, S: Scalar, P: Rows<R, V, S>>(
+    alloc: Global,
+    program: &P,
+    r: R,
+) -> Result<Vec<S>, NoMemory>
+    requires { R.number_of r < length (P.program program.now).rows }
+    ensures { IfOk result (λ v. map S.value v.items ≡ slack_row (row_at (P.program program.now).rows (R.number_of r))) }
+{
+    let mut row = Vec::new(alloc);
+    for v in 0..program.var_count() {
+        row.push(program.entry(r, V::of(v)).neg())?;
+    }
+    row.push(program.bound(r))?;
+    Ok(row)
+}
+
+// The rows of all slacks.
+fn slacks<R: Id, V: Id, S: Scalar, P: Rows<R, V, S>>(
+    alloc: Global,
+    program: &P,
+) -> Result<Vec<Vec<S>>, NoMemory>
+    ensures { IfOk result (λ v. shown_rows S.value v.items ≡ map slack_row (P.program program.now).rows) }
+{
+    let mut rows = Vec::new(alloc);
+    for r in 0..program.row_count() {
+        rows.push(slack(alloc, program, R::of(r))?)?;
+    }
+    Ok(rows)
+}
+
+// The cost's row.
+fn costs<R: Id, V: Id, S: Scalar, P: Rows<R, V, S>>(
+    alloc: Global,
+    program: &P,
+) -> Result<Vec<S>, NoMemory>
+    ensures { IfOk result (λ v. map S.value v.items ≡ (P.program program.now).costs ++ (P.program program.now).base ∷ []) }
+{
+    let mut row = Vec::new(alloc);
+    for v in 0..program.var_count() {
+        row.push(program.cost(V::of(v)))?;
+    }
+    row.push(program.base())?;
+    Ok(row)
+}
+
+// The first dictionary of the program.
+pub(crate) fn first_tableau<R: Id, V: Id, S: Scalar, P: Rows<R, V, S>>(
+    alloc: Global,
+    program: &P,
+) -> Result<Tableau<S>, NoMemory>
+    ensures { IfOk result (λ t. dictionary_of S.value t ≡ initial (P.program program.now)) }
+{
+    let variables = program.var_count() as usize;
+    let basic = numbers(alloc, variables, program.row_count() as usize)?;
+    let nonbasic = numbers(alloc, 0, variables)?;
+    let rows = slacks(alloc, program)?;
+    let cost = costs(alloc, program)?;
+    Ok(Tableau {
+        basic,
+        nonbasic,
+        rows,
+        cost,
+    })
+}
+
+// Rows of room.
+fn room_rows<S: Scalar>(alloc: Global, rows: &[Vec<S>]) -> Result<Vec<Vec<S>>, NoMemory>
+    ensures count { IfOk result (λ v. length v.items ≡ length rows.now) }
+    ensures widths { IfOk result (λ v. (n : ℕ) → HaveWidth n rows.now → HaveWidth n v.items) }
+{
+    let mut room = Vec::new(alloc);
+    for row in rows {
+        room.push(Vec::from_slice(alloc, row)?)?;
+    }
+    Ok(room)
+}
+
+// Room for the rows after a pivot.
+pub(crate) fn room_for<S: Scalar>(alloc: Global, t: &Tableau<S>) -> Result<Room<S>, NoMemory>
+    requires { AreEven t.now }
+    ensures { IfOk result (IsRoomFor t.now) }
+{
+    let solution = Vec::from_slice(alloc, &t.cost)?;
+    let rows = room_rows(alloc, &t.rows)?;
+    let cost = Vec::from_slice(alloc, &t.cost)?;
+    Ok(Room {
+        solution,
+        rows,
+        cost,
+    })
+}
