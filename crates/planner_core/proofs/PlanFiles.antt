@@ -7,6 +7,7 @@ use Rattle.first_path.specs.declared.model.PlanLine.{PlanLine}
 use Rattle.planner_core.specs.PlanFile.{Fields, Says, TellsLine, IsPlanFile, written_lines}
 use Rattle.planner_core.specs.Scanning.{fields_of}
 use Rattle.planner_core.proofs.Fields.{fields_sound, fields_found}
+use Rattle.plan_text.proofs.ReadingLemmas.{one_number}
 
 -- the text of the first line of a list
 line_in : List (ℕ × List ℕ) → List ℕ
@@ -24,6 +25,29 @@ same_fields : (line : List ℕ) (f g : Fields) → Says line f → Says line g �
 same_fields line f g p q =
     let same : Some f ≡ Some g = sym (fields_found line f p) ∙ fields_found line g q in
     cc
+
+-- the number of the first line of a list
+number_in : List (ℕ × List ℕ) → ℕ
+number_in [] = 0
+number_in (line ∷ lines) = line.0
+
+same_number : (n m : ℕ) (a b : List ℕ) → numbered n a ∷ [] ≡ numbered m b ∷ [] → n ≡ m
+unfolding number_in
+same_number n m a b e = ap number_in e
+
+same_told : (action : List ℕ) (fields : Fields) (l k : PlanLine) → TellsLine action fields l → TellsLine action fields k → l ≡ k
+same_told action fields l k p q =
+    let e : l.start ≡ k.start = one_number fields.start l.start k.start p.starts.0 q.starts.0 in
+    let h : l.duration ≡ k.duration = one_number fields.duration l.duration k.duration p.lasts.0 q.lasts.0 in
+    λ i. record { start = e i; duration = h i }
+
+-- a text is one plan file at most: one line with one number
+pub one_plan_file : (action text : List ℕ) (n m : ℕ) (l k : PlanLine) → IsPlanFile action text n l → IsPlanFile action text m k → (n ≡ m) × (l ≡ k)
+one_plan_file action text n m l k is other =
+    let lines : numbered n is.written ∷ [] ≡ numbered m other.written ∷ [] = sym is.only ∙ other.only in
+    let same : is.written ≡ other.written = same_line n m is.written other.written lines in
+    let equal : is.fields ≡ other.fields = same_fields other.written is.fields other.fields (subst (λ w. Says w is.fields) same is.says) other.says in
+    (same_number n m is.written other.written lines, same_told action other.fields l k (subst (λ f. TellsLine action f l) equal is.tells) other.tells)
 
 pub not_unwritten : (action text : List ℕ) → ((only : ℕ × List ℕ) → written_lines text ≢ only ∷ []) → (number : ℕ) (line : PlanLine) → ¬ (IsPlanFile action text number line)
 not_unwritten action text none number line is = none (number, is.written) is.only

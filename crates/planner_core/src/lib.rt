@@ -9,6 +9,7 @@ mod status;
 mod validation;
 mod words;
 
+pub use plan_file::plan_files_are_one;
 pub use session::run;
 pub use status::Status;
 

@@ -221,3 +221,8 @@ pub fn read_plan_file(text: &[u8], action: &[u8]) -> Option<(u32, PlanLine)>
     let fields = read_fields(only.line)?;
     Some((only.number, line_of(fields, action)?))
 }
+
+/// A text is one plan file at most: it has one line with one number, which tells one start and one duration.
+pub fn plan_files_are_one()
+    ensures { (action text : List ℕ) (n m : ℕ) (l k : PlanLine) → IsPlanFile action text n l → IsPlanFile action text m k → (n ≡ m) × (l ≡ k) }
+{}
