@@ -246,34 +246,56 @@ fn forms<S: Scalar>(
     requires near { length near.now ≡ 4 }
     requires far { length far.now ≡ 4 }
 {
-    let (zero, one, minus_two) = (S::of_int(0), S::of_int(1), S::of_int(-2));
     let form = half_and_two_terms(alloc, half, third)?;
     assert!(rt; form.constant() == half && form.terms().len() == 2);
     assert!(rt; term(&form, 0) == Some((0, S::of_int(2))) && term(&form, 1) == Some((3, third)));
     assert!(rt; form.value_at(near) == Ok(half.add(S::of_int(3))?));
     assert!(rt; form.value_at(far) == Err(Wide));
 
+    scaled_forms(rt, &form, half, third, &other_form(alloc, third)?, big)
+}
+
+fn other_form<S: Scalar>(alloc: Global, third: S) -> Result<Form<VarId, S>, FormFault> {
+    let one = S::of_int(1);
     let mut other: Form<VarId, S> = Form::zero(alloc);
     other.add_term(VarId::of(0), one)?;
     other.add_term(VarId::of(1), one)?;
     other.add_term(VarId::of(4), third)?;
     other.add_constant(one)?;
-    let mut sum = form.copy()?;
-    sum.add_scaled(&other, minus_two)?;
-    assert!(rt; sum.constant() == half.add(minus_two)? && sum.terms().len() == 3);
-    assert!(rt;
-        term(&sum, 0) == Some((1, minus_two))
-            && term(&sum, 1) == Some((3, third))
-            && term(&sum, 2) == Some((4, third.mul(minus_two)?))
-    );
+    Ok(other)
+}
 
+fn scaled_forms<S: Scalar>(
+    rt: &impl Abort,
+    form: &Form<VarId, S>,
+    half: S,
+    third: S,
+    other: &Form<VarId, S>,
+    big: S,
+) -> Result<(), FormFault> {
+    let minus_two = S::of_int(-2);
+    let mut sum = form.copy()?;
+    sum.add_scaled(other, minus_two)?;
+    assert!(rt; sum.constant() == half.add(minus_two)? && sum.terms().len() == 3);
+    assert!(rt; term(&sum, 0) == Some((1, minus_two)) && term(&sum, 1) == Some((3, third)));
+    assert!(rt; term(&sum, 2) == Some((4, third.mul(minus_two)?)));
+    wide_forms(rt, sum, other, big)
+}
+
+fn wide_forms<S: Scalar>(
+    rt: &impl Abort,
+    form: Form<VarId, S>,
+    other: &Form<VarId, S>,
+    big: S,
+) -> Result<(), FormFault> {
+    let mut sum = form;
     let before = sum.copy()?;
-    assert!(rt; sum.add_scaled(&other, big) == Err(FormFault::Wide));
+    assert!(rt; sum.add_scaled(other, big) == Err(FormFault::Wide));
     assert!(rt; sum.add_term(VarId::of(1), big.neg()) == Err(FormFault::Wide));
     assert!(rt; sum.add_constant(big.neg()) == Err(Wide));
     assert!(rt; sum.terms() == before.terms() && sum.constant() == before.constant());
     sum.add_term(VarId::of(1), S::of_int(2))?;
-    assert!(rt; sum.terms().len() == 2 && sum.constant() != zero);
+    assert!(rt; sum.terms().len() == 2 && sum.constant() != S::of_int(0));
     Ok(())
 }
 
