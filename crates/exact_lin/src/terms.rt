@@ -92,7 +92,7 @@ pub fn merge<V: Id, S: Scalar>(
     }
 }
 
-// How many terms, from the first on, have ids below this number.
+// How many terms, from the first on, have ids below this number, by halves.
 fn place_of<V: Id, S: Scalar>(terms: &[(V, S)], number: u32) -> usize
     requires { AscendFrom 0 (shown V.number_of S.value terms.now) }
     ensures { result ≡ place_in (shown V.number_of S.value terms.now) number }
@@ -103,14 +103,28 @@ fn place_of<V: Id, S: Scalar>(terms: &[(V, S)], number: u32) -> usize
             return terms.len();
         }
     }
-    let mut left = terms;
-    while let Some((first, rest)) = left.split_first() {
-        if first.0.number() >= number {
-            break;
+    let mut low = 0;
+    let mut high = terms.len();
+    while low < high {
+        let middle = low + (high - low) / 2;
+        if terms[middle].0.number() < number {
+            low = middle + 1;
+        } else {
+            high = middle;
         }
-        left = rest;
     }
-    terms.len() - left.len()
+    low
+}
+
+/// The coefficient of an id, 0 where it has no term.
+pub fn coefficient_of<V: Id, S: Scalar>(terms: &[(V, S)], v: V) -> S
+    requires { AscendFrom 0 (shown V.number_of S.value terms.now) }
+    ensures { S.value result ≡ coefficient (shown V.number_of S.value terms.now) (V.number_of v) }
+{
+    match coefficient_at(terms, v, place_of(terms, v.number())) {
+        Some(found) => found,
+        None => S::of_int(0),
+    }
 }
 
 // Adds to the term of an id, or makes or removes it.
