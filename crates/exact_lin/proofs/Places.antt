@@ -4,7 +4,8 @@ use Rattle.std.specs.Ordering.{nat_cmp, match_ordering}
 use Rattle.std.proofs.lemmas.List.{map-append, length-map, get_or-map}
 use Rattle.rational.specs.Rational.{ℚ, zeroℚ, ◌+ℚ◌}
 use Rattle.exact_lin.specs.Forms.{Terms, shown, AscendFrom, coefficient, with_term, increased, place_in}
-use Rattle.exact_lin.proofs.MergeTerms.{ranks_at, lt-less, coefficient-below, coefficient-later, coefficient-here}
+use Rattle.exact_lin.proofs.Merge.{ranks_at, lt-less}
+use Rattle.exact_lin.proofs.MergeTerms.{coefficient-below, coefficient-later, coefficient-here}
 
 pub place-less : (t : ℕ × ℚ) (ts : Terms) (n : ℕ) → t.0 < n → place_in (t ∷ ts) n ≡ suc (place_in ts n)
 place-less t ts n h = ap (λ (o : Ordering). match_ordering o (suc (place_in ts n)) 0 0) (lt-less t.0 n h)

@@ -1,5 +1,5 @@
 -- A fraction of 128 bits whose parts fit 64.
-use Rattle.std.proofs.Common.{◌≡◌, ℕ, ◌≤◌, sym, ◌∙◌, ap, subst, arith, ℤ, pos, negsuc}
+use Rattle.std.proofs.Common.{◌≡◌, ℕ, ◌≤◌, sym, ◌∙◌, ap, subst, arith, ℤ}
 use Rattle.std.proofs.Math.IntN.{nat_abs}
 use Rattle.std.proofs.Common.{leb}
 use Rattle.std.specs.Prelude.{◌↔◌, IsTrue}
@@ -8,7 +8,7 @@ use mir.Val.{Fits as FitsWidth, SFits, to_z, of_z}
 use mir.Syntax.{w64}
 use mir.Facts.{to_z-of_z}
 use Rattle.rational.specs.Rational.{ℚ, ratio}
-use Rattle.exact_lin.specs.Reckoning.{wide_limit, narrow_limit, IsFraction, Within, Fits}
+use Rattle.exact_lin.specs.Reckoning.{wide_limit, narrow_limit, IsFraction, Fits}
 use Rattle.exact_lin.proofs.Parts.{narrow, back, back-num, num-is, den-is}
 
 module _ (n : ℤ) (d : ℕ) (q : ℚ) (i : IsFraction wide_limit n d) (v : ratio n d ≡ q) where

@@ -18,6 +18,6 @@ pub loop-low-preserved : goal.loop-low-preserved
 loop-low-preserved g c = (
   c.loop-low.invariant.0,
   shown-place_before g.V.Id.number_of g.S.Scalar.value c.args.number c.args.terms.now (c.loop-low.low + (c.loop-low.high - c.loop-low.low) / 2) c.index-terms-middle.result
-  (omega (arith, c.loop-low-test.true, c.loop-low.invariant.2)) (omega (arith, c.number-in-loop-low.ensures, c.if-number-2.false)),
+      (omega (arith, c.loop-low-test.true, c.loop-low.invariant.2)) (omega (arith, c.number-in-loop-low.ensures, c.if-number-2.false)),
   omega (arith, c.loop-low-test.true, c.loop-low.invariant.2),
 )
