@@ -7,18 +7,28 @@ fn blank_file(alloc: Global, len: usize) -> Result<Vec<u8>, AllocError> {
     vec![in alloc; b' '; len]
 }
 
-#[test]
-fn memory_objects_fail_where_they_are_told_to(rt: HostRuntime) -> Result<(), Fail> {
-    let alloc = rt.alloc();
+// A desk with four files, whose third, fifth and tenth fetches fail.
+fn some_desk(alloc: Global) -> Result<MemoryDesk, AllocError> {
     let mut desk = MemoryDesk::new(alloc);
     desk.add("file", b"older")?;
     desk.add("other", b"")?;
     desk.add("file", b"new")?;
-    desk.add("longest", &blank_file(alloc, LONGEST_FILE)?)?;
-    desk.add("longer", &blank_file(alloc, LONGEST_FILE + 1)?)?;
+    add_long_files(&mut desk, alloc)?;
     for call in [4, 2, 9, 4] {
         desk.fail_at(call)?;
     }
+    Ok(desk)
+}
+
+fn add_long_files(desk: &mut MemoryDesk, alloc: Global) -> Result<(), AllocError> {
+    desk.add("longest", &blank_file(alloc, LONGEST_FILE)?)?;
+    desk.add("longer", &blank_file(alloc, LONGEST_FILE + 1)?)
+}
+
+#[test]
+fn memory_desks_fail_where_they_are_told_to(rt: HostRuntime) -> Result<(), Fail> {
+    let alloc = rt.alloc();
+    let mut desk = some_desk(alloc)?;
     for (name, want, faults) in [
         ("file", Ok(3), 0),
         ("file", Err(Fetch::Failed), 1),
@@ -35,11 +45,21 @@ fn memory_objects_fail_where_they_are_told_to(rt: HostRuntime) -> Result<(), Fai
         assert_eq!(rt; got, want, "{name}");
         assert_eq!(rt; desk.faults(), faults, "{name}");
     }
+    Ok(())
+}
 
+fn some_sink(alloc: Global) -> Result<MemorySink, AllocError> {
     let mut sink = MemorySink::new(alloc, 12)?;
     for (call, taken) in [(5, 1), (2, 1), (3, 99), (3, 0), (7, 3)] {
         sink.fail_at(call, taken)?;
     }
+    Ok(sink)
+}
+
+#[test]
+fn memory_sinks_fail_where_they_are_told_to(rt: HostRuntime) -> Result<(), Fail> {
+    let alloc = rt.alloc();
+    let mut sink = some_sink(alloc)?;
     for (piece, want, bytes) in [
         ("abc", Ok(()), "abc"),
         ("def", Err(Failed), "abcd"),
