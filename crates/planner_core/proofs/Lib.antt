@@ -5,3 +5,5 @@ pub mod Fields
 pub mod PlanFiles
 pub mod Answered
 pub mod Headlines
+pub mod OneAnswer
+pub mod Exact

@@ -9,3 +9,4 @@ pub mod Words
 pub mod Sessions
 pub mod Headline
 pub mod Stops
+pub mod Laws

@@ -12,6 +12,7 @@ mod words;
 pub use plan_file::plan_files_are_one;
 pub use session::run;
 pub use status::Status;
+pub use validation::answers_are_one;
 
 #[cfg(test)]
 mod tests;
