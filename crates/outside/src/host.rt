@@ -184,6 +184,10 @@ mod tests {
         }
     }
 
+    fn read_len(rt: &HostRuntime, left: &[Option<ErrorKind>]) -> Result<usize, Fetch> {
+        read_whole(rt.alloc(), Turns { left }).map(|bytes| bytes.len())
+    }
+
     #[test]
     fn an_interruption_is_tried_again(rt: HostRuntime) {
         let again = Some(ErrorKind::Interrupted);
@@ -199,8 +203,7 @@ mod tests {
             (&[None], Ok(1), Err(Failed)),
         ];
         for (left, read, written) in cases {
-            let got = read_whole(rt.alloc(), Turns { left });
-            assert_eq!(rt; got.map(|bytes| bytes.len()), read);
+            assert_eq!(rt; read_len(&rt, left), read);
             assert_eq!(rt; write_whole(&mut Turns { left }, b"ab"), written);
         }
     }

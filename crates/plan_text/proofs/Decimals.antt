@@ -1,6 +1,6 @@
 -- What a text of a plan stands for is its value as a decimal of PDDL.
-use Rattle.std.proofs.Common.{◌≡◌, ℕ, ◌<◌, Bool, true, false, ◌&&◌, ◌==◌, List, [], ◌∷◌, ◌++◌, length, refl, sym, ap, ◌∙◌, subst, inl, inr, arith}
-use Rattle.std.proofs.lemmas.Bool.{and_parts, cond-false, ltb-true}
+use Rattle.std.proofs.Common.{◌≡◌, ℕ, true, false, ◌==◌, List, [], ◌∷◌, ◌++◌, refl, sym, ap, ◌∙◌, subst, inl, inr}
+use Rattle.std.proofs.lemmas.Bool.{and_parts, cases_Bool, cond-false, eqb-true}
 use Rattle.std.proofs.lemmas.List.Folds.{list_all-append}
 use Rattle.std.specs.List.{list_all}
 use Rattle.std.specs.Char.{is_ascii_digit}
@@ -8,7 +8,7 @@ use Rattle.basics.specs.Texts.{is_digits, is_digit_or_point, is_decimal, unsigne
 use Rattle.rational.specs.Rational.{ℚ, neg_ℚ}
 use Rattle.rational.specs.Decimals.{decimal_value, number_value}
 use Rattle.rational.proofs.Decimals.{decimal_value-digits, decimal_value-parts}
-use Rattle.plan_text.specs.Numbers.{SpellsWhole, SpellsDecimal, SpellsQuotient, SpellsUnsigned, SpellsNegative, Spells}
+use Rattle.plan_text.specs.Numbers.{SpellsUnsigned, Spells}
 use Rattle.plan_text.proofs.ReadingLemmas.{is_digits_all}
 
 -- ---- without a minus
@@ -17,7 +17,7 @@ no_slash : (above below : List ℕ) → is_decimal (above ++ 47 ∷ below) ≡ t
 no_slash above below h =
     let all = (and_parts _ _ h).0 in
     let parts = and_parts (list_all is_digit_or_point above) (list_all is_digit_or_point (47 ∷ below))
-        (sym (list_all-append is_digit_or_point above (47 ∷ below)) ∙ all) in
+    (sym (list_all-append is_digit_or_point above (47 ∷ below)) ∙ all) in
     cc (parts.1)
 
 unsigned_agrees : (text : List ℕ) (q : ℚ) → is_decimal text ≡ true → SpellsUnsigned text q → q ≡ decimal_value text
@@ -39,7 +39,10 @@ record IsPlain (text : List ℕ) : Type 0 where
   no_minus : (first == 45) ≡ false
 
 digit_no_minus : (d : ℕ) → is_ascii_digit d ≡ true → (d == 45) ≡ false
-digit_no_minus d h = ?
+digit_no_minus d h = elim (cases_Bool (d == 45)) [
+  | inl minus ↦ cc (ap is_ascii_digit (eqb-true d 45 minus), h)
+  | inr other ↦ other
+]
 
 plain_front : (text front rest : List ℕ) → text ≡ front ++ rest → is_digits front ≡ true → IsPlain text
 plain_front text [] rest e h = cc
@@ -60,9 +63,9 @@ plain_agrees : (text : List ℕ) (q : ℚ) → IsPlain text → is_number text �
 plain_agrees text q plain h spells =
     let same : unsigned text ≡ text = ap unsigned plain.is ∙ cond-false (plain.first == 45) plain.rest (plain.first ∷ plain.rest) plain.no_minus ∙ sym plain.is in
     let value : number_value text ≡ decimal_value text =
-        ap number_value plain.is
-        ∙ cond-false (plain.first == 45) (neg_ℚ (decimal_value plain.rest)) (decimal_value (plain.first ∷ plain.rest)) plain.no_minus
-        ∙ ap decimal_value (sym plain.is) in
+    ap number_value plain.is
+    ∙ cond-false (plain.first == 45) (neg_ℚ (decimal_value plain.rest)) (decimal_value (plain.first ∷ plain.rest)) plain.no_minus
+    ∙ ap decimal_value (sym plain.is) in
     unsigned_agrees text q (ap is_decimal (sym same) ∙ h) spells ∙ sym value
 
 pub agrees : (text : List ℕ) (q : ℚ) → is_number text ≡ true → Spells text q → q ≡ number_value text

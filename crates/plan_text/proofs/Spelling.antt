@@ -1,5 +1,5 @@
 -- What printed numbers stand for.
-use Rattle.std.proofs.Common.{◌≡◌, ℕ, zero, suc, ◌+◌, ◌-◌, ◌*◌, ◌/◌, ◌%◌, ◌^◌, ◌<◌, ◌≤◌, true, ◌==◌, ℤ, pos, negsuc, nat_abs, Option, Some, None, List, [], ◌∷◌, ◌++◌, length, decimal, pow-suc, length-append, div-add-mod', mod-lt, add-zero, mul-le-mul_right, div-le_self, refl, sym, ap, ap₂, ◌∙◌, subst, inl, inr, arith}
+use Rattle.std.proofs.Common.{◌≡◌, ℕ, zero, suc, ◌+◌, ◌*◌, ◌/◌, ◌%◌, ◌^◌, ◌<◌, ◌≤◌, true, ◌==◌, ℤ, pos, negsuc, nat_abs, Option, Some, None, List, [], ◌∷◌, ◌++◌, length, decimal, pow-suc, length-append, div-add-mod', mod-lt, add-zero, mul-le-mul_right, div-le_self, refl, sym, ap, ap₂, ◌∙◌, subst, inl, inr, arith}
 use Rattle.std.proofs.lemmas.Bool.{and_from, cases_Bool, eqb-true, lt-ltb, le-leb, cond-true, cond-false}
 use Rattle.std.proofs.lemmas.List.Folds.{list_all-append}
 use Rattle.std.proofs.lemmas.Fmt.{decimal_by_steps_wide}
