@@ -37,4 +37,3 @@ leaves_of_same text d e s (a ∷ b ∷ c ∷ f ∷ g ∷ h ∷ k ∷ l ∷ tail)
 -- a problem of a domain is one of the same domain
 pub of_same : (text : List ℕ) (d e : DomainRead) → SameDomain d e → (t : Task) → IsProblem text e t → IsProblem text d t
 of_same text d e s t p = record { tokens = p.tokens; lexed = p.lexed; found = p.found; fits = p.fits; spelled = leaves_of_same text d e s p.found t p.spelled }
-
