@@ -1,18 +1,18 @@
 -- Where the desk tells its files, the one right answer to them is told, but for faults.
-use Rattle.std.proofs.Common.{◌≡◌, ◌≤◌, ◌<◌, ◌⊎◌, inl, inr, ℕ, List, [], ◌∷◌, length, Option, Some, None, Ok, Err, refl, sym, ◌∙◌, ap, subst, arith}
+use Rattle.std.proofs.Common.{◌≡◌, ◌≤◌, ◌<◌, ◌⊎◌, inl, inr, ℕ, List, [], ◌∷◌, length, Option, Some, Ok, Err, sym, ◌∙◌, ap, subst, arith}
 use Rattle.std.specs.Option.{IsSomeAnd}
 use Rattle.outside.specs.Fetching.{Files, Answer, MayAnswer, DeskView}
 use Rattle.outside.specs.Putting.{SinkView, sink_with}
 use Rattle.outside.specs.declared.desk.Fetch.TheVariants.{Failed, Long, Memory}
 use Rattle.outside.specs.declared.desk.TheConstants.{LONGEST_FILE}
 use Rattle.planner_core.specs.declared.status.Status.{Status}
-use Rattle.planner_core.specs.declared.status.Status.TheVariants.{ReadFault, WriteFault}
+use Rattle.planner_core.specs.declared.status.Status.TheVariants.{ReadFault}
 use Rattle.planner_core.specs.declared.reply.Role.{Role}
 use Rattle.planner_core.specs.declared.reply.Role.TheVariants.{Domain, Problem, Plan}
 use Rattle.planner_core.specs.Replies.{Said, read_fault}
 use Rattle.planner_core.specs.Answers.{Answer as TextsAnswer, IsAnswer, said_of, Validates}
-use Rattle.planner_core.specs.Works.{Work, Ends, Asks, Request, Validate, work_of, work_or_usage, request_of}
-use Rattle.planner_core.specs.Sessions.{AreAnswers, IsReply, LedTo, Delivered, Ran}
+use Rattle.planner_core.specs.Works.{Work, Ends, Asks, Request, Validate, work_of, work_or_usage}
+use Rattle.planner_core.specs.Sessions.{AreAnswers, IsReply, LedTo, Delivered}
 use Rattle.planner_core.specs.Headline.{AreFetched}
 use Rattle.planner_core.specs.Laws.{Told, AnswersAreTold}
 use Rattle.planner_core.proofs.OneAnswer.{answer_one}
@@ -77,7 +77,7 @@ domain_end : (files : Files) (domain_name problem_name plan_name domain problem 
 domain_end files domain_name problem_name plan_name domain problem plan said has_problem has_plan (inl e) = inl (faulted domain_name said e)
 domain_end files domain_name problem_name plan_name domain problem plan said has_problem has_plan (inr on) =
     problem_end files problem_name plan_name domain problem plan said has_plan
-        (step files Problem problem_name (λ p. Asks Plan plan_name (λ l. Ends (Validates domain p l))) problem on.answers said has_problem on.asked on.replied)
+    (step files Problem problem_name (λ p. Asks Plan plan_name (λ l. Ends (Validates domain p l))) problem on.answers said has_problem on.asked on.replied)
 
 -- the reply to files that are told
 reply_told : (words : List (List ℕ)) (files : Files) (desk desk_now : DeskView) (said : Said) (domain problem plan : List ℕ) → desk.files ≡ Some files
@@ -88,7 +88,7 @@ reply_told words files desk desk_now said domain problem plan told are led =
     let asked_told : AreAnswers (Some files) work led.answers = subst (λ (o : Option Files). AreAnswers o work led.answers) told asked in
     let replied : IsReply work led.answers said = subst (λ (r : Option Request). IsReply (work_or_usage r) led.answers said) are.asked led.replied in
     domain_end files are.domain_name are.problem_name are.plan_name domain problem plan said are.problem_fetched are.plan_fetched
-        (step files Domain are.domain_name (λ d. Asks Problem are.problem_name (λ p. Asks Plan are.plan_name (λ l. Ends (Validates d p l)))) domain led.answers said are.domain_fetched asked_told replied)
+    (step files Domain are.domain_name (λ d. Asks Problem are.problem_name (λ p. Asks Plan are.plan_name (λ l. Ends (Validates d p l)))) domain led.answers said are.domain_fetched asked_told replied)
 
 said_same : (domain problem plan : List ℕ) (said : Said) (answer : TextsAnswer) → IsAnswer domain problem plan answer → Validates domain problem plan said → said ≡ said_of answer
 said_same domain problem plan said answer right is = is.told ∙ ap said_of (answer_one domain problem plan is.answer answer is.right right)

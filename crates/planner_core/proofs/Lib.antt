@@ -1,5 +1,5 @@
 pub mod Led
-pub mod Facts
+pub mod Statuses
 pub mod Scans
 pub mod Fields
 pub mod PlanFiles

@@ -1,19 +1,20 @@
 -- Three texts have one right answer at most.
-use Rattle.std.proofs.Common.{◌≡◌, ℕ, List, [], ◌∷◌, IsTrue, refl, sym, ◌∙◌, ap, ap₂, subst}
+use Rattle.std.proofs.Common.{◌≡◌, ℕ, List, refl, sym, ap, ap₂, subst}
 use Rattle.first_path.specs.declared.model.Task.{Task}
 use Rattle.first_path.specs.declared.model.PlanLine.{PlanLine}
 use Rattle.first_path.specs.declared.model.Verdict.{Verdict}
 use Rattle.first_path.specs.declared.model.Undefined.{Undefined}
 use Rattle.first_path.specs.declared.domains.Domain.{Domain as DomainRead}
-use Rattle.first_path.specs.DomainText.{IsDomain}
-use Rattle.first_path.specs.Problem.{IsProblem}
 use Rattle.first_path.specs.Laws.{SameDomain}
 use Rattle.first_path.specs.Validity.{IsRight}
-use Rattle.first_path.specs.Course.{course, IsReckoned, IsFirstUndefined}
+use Rattle.basics.proofs.Duties.{AllMet-no_first, first_unmet-one}
+use Rattle.exact_lin.specs.Reckoning.{wide_limit}
+use Rattle.exact_lin.specs.Reckonings.{AllDefined, IsFirstUndefined, place_duties}
+use Rattle.first_path.specs.Course.{course}
 use Rattle.first_path.proofs.DomainUniqueness.{domain-one}
 use Rattle.first_path.proofs.TaskUniqueness.{task-one}
 use Rattle.first_path.proofs.SameProblem.{of_same}
-use Rattle.first_path.proofs.Uniqueness.{place-not_reckoned, places-one, verdicts-one}
+use Rattle.first_path.proofs.Uniqueness.{verdicts-one}
 use Rattle.planner_core.specs.declared.reply.Role.{Role}
 use Rattle.planner_core.specs.declared.reply.Role.TheVariants.{Domain, Problem, Plan}
 use Rattle.planner_core.specs.PlanFile.{IsPlanFile}
@@ -59,22 +60,23 @@ unread_one domain problem plan Plan Problem (other, (task, (made, _))) (read, (i
     absurd (none task (of_same problem read other (domain-one domain read other is made.domain_read) task made.problem_read))
 unread_one domain problem plan Plan Plan h k = refl
 
-wide_one : (t u : Task) (n m : ℕ) (l k : PlanLine) (p q : Undefined) → SameRead t u n m l k → IsFirstUndefined (course standard_rules t l) p → IsFirstUndefined (course standard_rules u k) q → Wide n p ≡ Wide m q
+wide_one : (t u : Task) (n m : ℕ) (l k : PlanLine) (p q : Undefined) → SameRead t u n m l k → IsFirstUndefined wide_limit (course standard_rules t l) p → IsFirstUndefined wide_limit (course standard_rules u k) q → Wide n p ≡ Wide m q
 wide_one t u n m l k p q same h j =
-    let other : IsFirstUndefined (course standard_rules t l) q = subst (λ (x : Task). IsFirstUndefined (course standard_rules x l) q) (sym same.task)
-        (subst (λ (x : PlanLine). IsFirstUndefined (course standard_rules u x) q) (sym same.line) j) in
-    ap₂ Wide same.number (places-one (course standard_rules t l) p q h other)
+    let other : IsFirstUndefined wide_limit (course standard_rules t l) q = subst (λ (x : Task). IsFirstUndefined wide_limit (course standard_rules x l) q) (sym same.task)
+    (subst (λ (x : PlanLine). IsFirstUndefined wide_limit (course standard_rules u x) q) (sym same.line) j) in
+    ap₂ Wide same.number (first_unmet-one (place_duties wide_limit (course standard_rules t l)) p q h other)
 
 decided_one : (t u : Task) (n m : ℕ) (l k : PlanLine) (v w : Verdict) → SameRead t u n m l k → IsRight standard_rules t l v → IsRight standard_rules u k w → Decided n v ≡ Decided m w
 decided_one t u n m l k v w same h j =
     let other : IsRight standard_rules t l w = subst (λ (x : Task). IsRight standard_rules x l w) (sym same.task)
-        (subst (λ (x : PlanLine). IsRight standard_rules u x w) (sym same.line) j) in
+    (subst (λ (x : PlanLine). IsRight standard_rules u x w) (sym same.line) j) in
     ap₂ Decided same.number (verdicts-one standard_rules t l v w h other)
 
-not_both : (t u : Task) (n m : ℕ) (l k : PlanLine) (p : Undefined) → SameRead t u n m l k → IsFirstUndefined (course standard_rules t l) p → IsReckoned (course standard_rules u k) → ⊥
+not_both : (t u : Task) (n m : ℕ) (l k : PlanLine) (p : Undefined) → SameRead t u n m l k → IsFirstUndefined wide_limit (course standard_rules t l) p → AllDefined wide_limit (course standard_rules u k) → ⊥
 not_both t u n m l k p same h j =
-    place-not_reckoned (course standard_rules t l) p h (subst (λ (x : Task). IsReckoned (course standard_rules x l)) (sym same.task)
-        (subst (λ (x : PlanLine). IsReckoned (course standard_rules u x)) (sym same.line) j))
+    let other : AllDefined wide_limit (course standard_rules t l) = subst (λ (x : Task). AllDefined wide_limit (course standard_rules x l)) (sym same.task)
+    (subst (λ (x : PlanLine). AllDefined wide_limit (course standard_rules u x)) (sym same.line) j) in
+    AllMet-no_first (place_duties wide_limit (course standard_rules t l)) p other h
 
 pub answer_one : (domain problem plan : List ℕ) (a b : Answer) → IsAnswer domain problem plan a → IsAnswer domain problem plan b → a ≡ b
 answer_one domain problem plan (Unbuilt r) (Unbuilt s) h k = ap Unbuilt (unread_one domain problem plan r s h k)

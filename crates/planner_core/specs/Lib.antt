@@ -2,8 +2,8 @@ pub mod Replies
 pub mod Validations
 pub mod Answers
 pub mod PlanFile
-pub mod Scanning
-pub mod Seen
+pub mod LineScan
+pub mod PlanFileParts
 pub mod Works
 pub mod Words
 pub mod Sessions

@@ -2,6 +2,7 @@
 #![tactic(auto)]
 
 mod fetching;
+pub mod laws;
 mod plan_file;
 mod reply;
 mod session;
@@ -9,10 +10,8 @@ mod status;
 mod validation;
 mod words;
 
-pub use plan_file::plan_files_are_one;
 pub use session::run;
 pub use status::Status;
-pub use validation::answers_are_one;
 
 #[cfg(test)]
 mod tests;

@@ -3,7 +3,6 @@
 ghost use Rattle.std.specs.Prelude.{◌≡◌, ◌++◌, ◌<◌, ◌^◌, ◌-◌, length, IfOk, OnOk, codes};
 ghost use Rattle.plan_text.specs.Numbers.{number_text};
 ghost use Rattle.planner_core.specs.Answers.{Validates};
-ghost use Rattle.planner_core.specs.Laws.{AnswersAreOne, AnswersAreTold};
 ghost use Rattle.planner_core.specs.Validations.{reason_text, verdict_said, undefined_said, unbuilt_said};
 
 use crate::plan_file::read_plan_file;
@@ -27,7 +26,8 @@ fn over_all_text(
     from: Fraction,
     to: Fraction,
 ) -> Result<Vec<u8>, NoMemory>
-    ensures { IfOk result (λ text. text.items ≡ reason_text line (Reason.OverAll from to) ++ codes "\n") }
+    ensures { IfOk result (λ text.
+        text.items ≡ reason_text line (Reason.OverAll from to) ++ codes "\n") }
 {
     let mut text = format!(in alloc; "invalid over all line {line} between ")?.into_bytes();
     push_number(alloc, &mut text, from)?;
@@ -120,10 +120,3 @@ pub fn validation_reply(
         Err(place) => undefined_reply(alloc, line, place),
     }
 }
-
-/// Three texts have one right answer at most. A run over a desk that tells its files gives the right
-/// answer to them, but for a fault of the desk or the sink.
-pub fn answers_are_one()
-    ensures one { AnswersAreOne }
-    ensures told { AnswersAreTold }
-{}

@@ -1,7 +1,8 @@
--- What a scan of a line finds next: for private functions alone.
+-- Private: what a scan of a line finds next.
 use Rattle.std.specs.Prelude.{ℕ, ◌==◌, List, [], ◌∷◌, if◌then◌else◌, Option, Some, None, option_map, option_and_then}
 use Rattle.std.specs.List.{list_all}
-use Rattle.planner_core.specs.PlanFile.{is_blank, is_run_byte, Fields}
+use Rattle.basics.specs.Texts.{is_blank}
+use Rattle.planner_core.specs.PlanFile.{is_run_byte, Fields}
 
 -- what is left behind the blanks in front
 abbrev pub skip_blanks : List ℕ → List ℕ
@@ -45,17 +46,22 @@ abbrev pub closed_by : ℕ → List ℕ × List ℕ → Option (List ℕ × List
 closed_by right found = option_map (λ rest. (found.0, rest)) (behind_mark right found.1)
 
 abbrev pub enclosed_run : ℕ → ℕ → List ℕ → Option (List ℕ × List ℕ)
-enclosed_run left right line = option_and_then (closed_by right) (option_and_then next_run (behind_mark left line))
+enclosed_run left right line =
+    option_and_then (closed_by right) (option_and_then next_run (behind_mark left line))
 
 -- the fields, where nothing but blanks is left
 abbrev pub with_duration : List ℕ → List ℕ → List ℕ × List ℕ → Option Fields
-with_duration start name found = if list_all is_blank found.1 then Some (record { start = start; name = name; duration = found.0 }) else None
+with_duration start name found =
+    if list_all is_blank found.1 then Some (record { start = start; name = name; duration = found.0 })
+    else None
 
 abbrev pub with_name : List ℕ → List ℕ × List ℕ → Option Fields
 with_name start found = option_and_then (with_duration start found.0) (enclosed_run 91 93 found.1)
 
 abbrev pub with_start : List ℕ × List ℕ → Option Fields
-with_start found = option_and_then (λ rest. option_and_then (with_name found.0) (enclosed_run 40 41 rest)) (behind_mark 58 found.1)
+with_start found =
+    option_and_then (λ rest. option_and_then (with_name found.0) (enclosed_run 40 41 rest))
+    (behind_mark 58 found.1)
 
 -- the fields of the line, if it has them
 unfoldable pub fields_of : List ℕ → Option Fields

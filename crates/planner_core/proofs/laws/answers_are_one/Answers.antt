@@ -1,6 +1,6 @@
 use Rattle.planner_core.proofs.OneAnswer.{answer_one}
 use Rattle.planner_core.proofs.Exact.{answers_told}
-use Rattle.planner_core.proofs.validation.answers_are_one.Goals as goal
+use Rattle.planner_core.proofs.laws.answers_are_one.Goals as goal
 
 pub returns-clause-one : goal.returns-clause-one
 returns-clause-one _ = answer_one
