@@ -1,4 +1,4 @@
--- Why the validator's answers come exactly where they are right.
+-- Believed: why the validator's answers come exactly where they are right.
 use Rattle.std.specs.Prelude.{◌≡◌, ℕ, List}
 use Rattle.first_path.specs.declared.domains.Domain.{Domain}
 use Rattle.first_path.specs.DomainText.{IsDomain}
