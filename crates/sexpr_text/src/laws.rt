@@ -1,6 +1,9 @@
 //! What holds of the definitions: each text is read in one way at most.
 
-ghost use Rattle.std.specs.Prelude.{◌≡◌, ℕ, ◌↔◌, List, IsTrue};
+ghost use Rattle.std.specs.Prelude.{◌≡◌, ℕ, ◌≤◌, ◌↔◌, List, IsTrue, Ok, true};
+ghost use Rattle.basics.specs.Texts.{digit_count, digit_limit, is_number};
+ghost use Rattle.sexpr_text.specs.declared.token.TokenKind.TheVariants.{Number};
+ghost use Rattle.sexpr_text.specs.Runs.{reading};
 ghost use Rattle.sexpr_text.specs.declared.token.Token.{Token};
 ghost use Rattle.sexpr_text.specs.declared.fault.LexFault.{LexFault};
 ghost use Rattle.sexpr_text.specs.Comments.{in_comment, StandsBehindSemicolon};
@@ -25,4 +28,10 @@ pub fn fault_is_one()
 pub fn comments_end_at_line_feeds()
     ensures { (text : List ℕ) (place : ℕ)
         → IsTrue (in_comment text place) ↔ StandsBehindSemicolon text place }
+{}
+
+/// A run that spells a number is a decimal of few digits, perhaps behind a minus.
+pub fn number_tokens_are_decimals()
+    ensures number { (run : List ℕ) → reading run ≡ Ok Number → is_number run ≡ true }
+    ensures few { (run : List ℕ) → reading run ≡ Ok Number → digit_count run ≤ digit_limit }
 {}
