@@ -96,7 +96,8 @@ fn memory_sinks_fail_where_they_are_told_to(rt: HostRuntime) -> Result<(), Fail>
     ] {
         assert!(rt; takes(&mut sink, piece, taken, bytes), "{piece}");
     }
-    assert_eq!(rt; (sink.puts(), sink.faults()), (9, 5));
+    assert!(rt; sink.puts() == 9);
+    assert!(rt; sink.faults() == 5);
     Ok(())
 }
 
@@ -105,6 +106,13 @@ fn write_files(rt: &HostRuntime) -> Result<(), Fail> {
     fs::write(rt, "empty", "")?;
     fs::write(rt, "longest", &blank_file(alloc, LONGEST_FILE)?)?;
     fs::write(rt, "longer", &blank_file(alloc, LONGEST_FILE + 1)?)?;
+    Ok(())
+}
+
+fn remove_files(rt: &HostRuntime) -> Result<(), Fail> {
+    for name in ["empty", "longest", "longer"] {
+        fs::remove_file(rt, name)?;
+    }
     Ok(())
 }
 
@@ -127,10 +135,7 @@ fn files_of_the_machine_are_handed_over_whole(rt: HostRuntime) -> Result<(), Fai
     ] {
         assert_eq!(rt; fetched(&rt, name), want, "{name}");
     }
-    for name in ["empty", "longest", "longer"] {
-        fs::remove_file(&rt, name)?;
-    }
-    Ok(())
+    remove_files(&rt)
 }
 
 #[test]

@@ -1,5 +1,5 @@
 -- A fraction between two neighbours has no smaller parts than those of both together.
-use Rattle.std.proofs.Common.{◌≡◌, ℕ, zero, suc, ◌+◌, ◌-◌, ◌*◌, ◌/◌, ◌<◌, ◌≤◌, mul-le-mul_left, mul_comm, ℤ, pos, ◌*ℤ◌, nat_abs, refl, sym, ap, ◌∙◌, subst, arith}
+use Rattle.std.proofs.Common.{◌≡◌, ℕ, zero, suc, ◌+◌, ◌-◌, ◌*◌, ◌/◌, ◌<◌, ◌≤◌, mul-le-mul_left, mul-le-mul_right, mul_comm, ℤ, pos, ◌*ℤ◌, nat_abs, refl, sym, ap, ◌∙◌, subst, arith}
 use Rattle.std.proofs.Math.Nat.{lt_of_mul-lt-mul_right}
 use Rattle.rational.specs.Rational.{ratio}
 use Rattle.rational.specs.Gcd.{gcd}
@@ -101,3 +101,32 @@ past_limit n d a b c e limit some h fits =
   where
     pos_same : (x y : ℕ) → pos x ≡ pos y → x ≡ y
     pos_same x y e = cc
+
+-- ---- how far it is to the limit
+
+-- of two neighbours neither is 0 / 0
+pub neighbours-some : (n d a b c e : ℕ) → LiesBetween n d a b c e → (0 < a + b) × (0 < c + e)
+neighbours-some n d a b c e h = (first a b h.neighbours, second c e h.neighbours)
+  where
+    first : (a b : ℕ) → a * e ≡ b * c + 1 → 0 < a + b
+    first zero b k = absurd (omega (arith, k))
+    first (suc a) b k = omega arith
+
+    second : (c e : ℕ) → a * e ≡ b * c + 1 → 0 < c + e
+    second c zero k = absurd (omega (arith, k))
+    second c (suc e) k = omega arith
+
+step-more : (limit x y s t p q : ℕ) → IsStep x y s t p q → 0 < s + t → p ≤ limit → q ≤ limit → limit - p + (limit - q) < limit - x + (limit - y)
+step-more limit x y s t p q h some first second =
+    let more : 1 * s ≤ h.times * s = mul-le-mul_right s h.some in
+    let most : 1 * t ≤ h.times * t = mul-le-mul_right t h.some in
+    omega (arith, more, most, h.first, h.second)
+
+-- a step leaves less up to the limit
+pub step-falls : (limit x y s t p q r : ℕ) → IsStep x y s t p q → 0 < s + t → p ≤ limit → q ≤ limit
+    → (limit - p + (limit - q) + r < limit - x + (limit - y) + r) × (r + (limit - p + (limit - q)) < r + (limit - x + (limit - y)))
+step-falls limit x y s t p q r h some first second =
+    added (limit - p + (limit - q)) (limit - x + (limit - y)) r (step-more limit x y s t p q h some first second)
+  where
+    added : (m n r : ℕ) → m < n → (m + r < n + r) × (r + m < r + n)
+    added m n r lt = (omega arith, omega arith)

@@ -1,5 +1,6 @@
 use Rattle.std.proofs.Common.{arith}
-use Rattle.plan_text.proofs.LowestTerms.{past_limit, between_above, between_below}
+use Rattle.exact_lin.specs.Reckoning.{wide_limit}
+use Rattle.plan_text.proofs.LowestTerms.{past_limit, between_above, between_below, neighbours-some, step-falls}
 use Rattle.plan_text.proofs.lowest_terms.lowest_parts.Goals as goal
 use Rattle.plan_text.proofs.lowest_terms.lowest_parts.Goals.{then-num-gt-LIMIT-via-then-num-gt-LIMIT, then-num-gt-LIMIT-via-else-num-gt-LIMIT+then-den-gt-LIMIT}
 
@@ -32,3 +33,19 @@ descent-preserved c =
       below_num = c.far-below.ensures.num;
       below_den = c.far-below.ensures.den;
     }
+
+pub far-above-requires-clause-some : goal.far-above-requires-clause-some
+far-above-requires-clause-some c = (neighbours-some _ _ _ _ _ _ c.descent.invariant.between).1
+
+pub far-below-requires-clause-some : goal.far-below-requires-clause-some
+far-below-requires-clause-some c = (neighbours-some _ _ _ _ _ _ c.descent.invariant.between).0
+
+pub descent-smaller-in-Greater : goal.descent-smaller-in-Greater
+descent-smaller-in-Greater c =
+    let some = neighbours-some _ _ _ _ _ _ c.descent.invariant.between in
+    (step-falls wide_limit _ _ _ _ _ _ _ c.far-above.ensures.step some.1 c.far-above.ensures.num c.far-above.ensures.den).0
+
+pub descent-smaller : goal.descent-smaller
+descent-smaller c =
+    let some = neighbours-some _ _ _ _ _ _ c.descent.invariant.between in
+    (step-falls wide_limit _ _ _ _ _ _ _ c.far-below.ensures.step some.0 c.far-below.ensures.num c.far-below.ensures.den).1
