@@ -1,4 +1,4 @@
--- Numbers of PDDL.
+-- Believed: numbers of PDDL.
 use Rattle.std.specs.Prelude.{ℕ, ◌+◌, ◌*◌, ◌-◌, ◌^◌, ◌<◌, ◌≤◌, ◌==◌, Bool, IsTrue, MatchBool, if◌then◌else◌, List, [], ◌∷◌, length, take, drop, position, fold, pos, Option, Some, None}
 use Rattle.std.specs.List.{list_all}
 use Rattle.std.specs.Char.{is_ascii_digit}

@@ -1,4 +1,4 @@
--- Domains of the small grammar.
+-- Believed: domains of the small grammar.
 use Rattle.std.specs.Prelude.{◌≡◌, ℕ, ◌+◌, Bool, true, false, List, [], ◌∷◌, ◌++◌, replicate, Option, Some, None}
 use Rattle.sexpr_text.specs.declared.token.Token.{Token}
 use Rattle.sexpr_text.specs.declared.token.TokenKind.TheVariants.{Name, Number, Mark}

@@ -1,4 +1,4 @@
--- Texts of domains.
+-- Believed: texts of domains.
 use Rattle.std.specs.Prelude.{ℕ, Bool, List}
 use Rattle.sexpr_text.specs.declared.token.Token.{Token}
 use Rattle.sexpr_text.specs.Token.{AreTokens}

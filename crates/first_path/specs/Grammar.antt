@@ -1,4 +1,4 @@
--- Texts that are spelled by a list of parts: fixed words, in any case, and leaves of a kind.
+-- Believed: texts that are spelled by a list of parts: fixed words, in any case, and leaves of a kind.
 use Rattle.std.specs.Prelude.{◌≡◌, ℕ, ◌<◌, Bool, true, false, List, length, map, filter, IsTrue, ◌||◌, slice_range, slice_index_or}
 use Rattle.std.specs.List.{zip}
 use Rattle.std.specs.Str.{str_eq_ignore_ascii_case}

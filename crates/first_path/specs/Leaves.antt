@@ -1,4 +1,4 @@
--- What tokens at leaves say.
+-- Believed: what tokens at leaves say.
 use Rattle.std.specs.Prelude.{◌≡◌, ℕ, ◌<◌, ◌≤◌, IsTrue, length, Bool, false, ◌||◌, if◌then◌else◌, List, [], ◌∷◌, Option, Some, None}
 use lib.Chars.{codes}
 use Rattle.rational.specs.Rational.{ℚ}

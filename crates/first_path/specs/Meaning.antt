@@ -1,4 +1,4 @@
--- What a plan of one line does, in a task of one fluent and one durative action with a continuous effect.
+-- Believed: what a plan of one line does, in a task of one fluent and one durative action with a continuous effect.
 -- After Fox and Long 2003: durative actions with continuous effects, and the trace of a continuous plan.
 use Rattle.rational.specs.Rational.{ℚ, zeroℚ, ◌+ℚ◌, ◌*ℚ◌, ◌-ℚ◌, neg_ℚ, ◌≤ℚ◌}
 use Rattle.rational.specs.Extremes.{min_ℚ, max_ℚ}

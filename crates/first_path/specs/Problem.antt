@@ -1,4 +1,4 @@
--- Problems of the small grammar, and the task of a domain and a problem.
+-- Believed: problems of the small grammar, and the task of a domain and a problem.
 use Rattle.std.specs.Prelude.{◌≡◌, ℕ, IsTrue, List, [], ◌∷◌}
 use Rattle.sexpr_text.specs.declared.token.Token.{Token}
 use Rattle.sexpr_text.specs.declared.token.TokenKind.TheVariants.{Name, Number, Mark}

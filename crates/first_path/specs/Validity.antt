@@ -1,4 +1,4 @@
--- When a plan of one line is valid, why it is not, and what it costs.
+-- Believed: when a plan of one line is valid, why it is not, and what it costs.
 -- After Fox and Long 2003: the validity of a plan with durative actions, its invariants, and plan metrics.
 use Rattle.std.specs.Prelude.{◌≡◌}
 use Rattle.rational.specs.Rational.{ℚ, zeroℚ, ◌≤ℚ◌, ◌<ℚ◌}

@@ -1,73 +1,100 @@
+//! Texts and the numbers that they stand for, both ways.
+
 use crate::{print_number, read_number};
-use exact_lin::Fraction;
+use exact_lin::{Fraction, NoMemory};
+use std::alloc::Global;
 use std::test::Fail;
 
 const LIMIT: i128 = 170141183460469231731687303715884105727;
 
+fn parts_of(text: &[u8]) -> Option<(i128, i128)> {
+    read_number(text).map(|number| (number.num(), number.den()))
+}
+
 #[test]
 fn texts_stand_for_numbers(rt: HostRuntime) {
     let rows = [
-        (b"0".as_slice(), Some((0, 1))),
-        (b"5", Some((5, 1))),
-        (b"-5", Some((-5, 1))),
-        (b"007", Some((7, 1))),
-        (b"-0", Some((0, 1))),
-        (b"5.000", Some((5, 1))),
-        (b"0.001", Some((1, 1000))),
-        (b"1.50", Some((3, 2))),
-        (b"-12.5", Some((-25, 2))),
+        (b"0".as_slice(), 0, 1),
+        (b"-5", -5, 1),
+        (b"007", 7, 1),
+        (b"-0", 0, 1),
+        (b"5.000", 5, 1),
+        (b"0.001", 1, 1000),
+        (b"-12.5", -25, 2),
         (
             b"1.000000000000000001",
-            Some((1000000000000000001, 1000000000000000000)),
+            1000000000000000001,
+            1000000000000000000,
         ),
-        (b"1/3", Some((1, 3))),
-        (b"-2/6", Some((-1, 3))),
-        (b"0/7", Some((0, 1))),
-        (b"170141183460469231731687303715884105727", Some((LIMIT, 1))),
+        (b"-2/6", -1, 3),
+        (b"0/7", 0, 1),
+        (b"170141183460469231731687303715884105727", LIMIT, 1),
+        (b"-1/170141183460469231731687303715884105727", -1, LIMIT),
+    ];
+    for (text, num, den) in rows {
+        assert!(rt; parts_of(text) == Some((num, den)), "at {text:?}");
+    }
+}
+
+#[test]
+fn long_texts_stand_for_numbers(rt: HostRuntime) {
+    let rows = [
         (
-            b"-1/170141183460469231731687303715884105727",
-            Some((-1, LIMIT)),
-        ),
-        (
-            b"0000000000000000000000000000000000000000000000000000000000001",
-            Some((1, 1)),
+            b"0000000000000000000000000000000000000000000000000000000000001".as_slice(),
+            1,
+            1,
         ),
         // 2^128 over 2^129
         (
             b"340282366920938463463374607431768211456/680564733841876926926749214863536422912",
-            Some((1, 2)),
+            1,
+            2,
         ),
         (
             b"3000000000000000000000000000000000000000000000/7000000000000000000000000000000000000000000000",
-            Some((3, 7)),
+            3,
+            7,
         ),
-        (b"500000000000000000000000000000000000000.500/1", None),
-        (b"170141183460469231731687303715884105728", None),
-        (b"1/170141183460469231731687303715884105728", None),
-        (
-            b"100000000000000000000000000000000000000001/100000000000000000000000000000000000000000",
-            None,
-        ),
-        (b"1.0000000000000000000", None),
-        (b"5.", None),
-        (b".5", None),
-        (b"", None),
-        (b"-", None),
-        (b"--1", None),
-        (b"+5", None),
-        (b" 5", None),
-        (b"5 ", None),
-        (b"1/0", None),
-        (b"1/", None),
-        (b"/2", None),
-        (b"1/-2", None),
-        (b"1.5/2", None),
-        (b"1e5", None),
     ];
-    for (text, wanted) in rows {
-        let parts = read_number(text).map(|x| (x.num(), x.den()));
-        assert_eq!(rt; parts, wanted, "at {text:?}");
+    for (text, num, den) in rows {
+        assert!(rt; parts_of(text) == Some((num, den)), "at {text:?}");
     }
+}
+
+#[test]
+fn other_texts_stand_for_none(rt: HostRuntime) {
+    for text in [
+        b"500000000000000000000000000000000000000.500/1".as_slice(),
+        b"170141183460469231731687303715884105728",
+        b"1/170141183460469231731687303715884105728",
+        b"100000000000000000000000000000000000000001/100000000000000000000000000000000000000000",
+        b"1.0000000000000000000",
+        b"5.",
+        b".5",
+        b"",
+        b"-",
+        b"--1",
+        b"+5",
+        b" 5",
+        b"5 ",
+        b"1/0",
+        b"1/",
+        b"/2",
+        b"1/-2",
+        b"1.5/2",
+        b"1e5",
+    ] {
+        assert!(rt; parts_of(text).is_none(), "at {text:?}");
+    }
+}
+
+// Whether a fraction is printed so, and this text is read as the same fraction.
+fn prints(alloc: Global, num: i128, den: i128, wanted: &[u8]) -> Result<bool, NoMemory> {
+    let Some(number) = Fraction::of_parts(num, den) else {
+        return Ok(false);
+    };
+    let text = print_number(alloc, number)?;
+    Ok(text.as_slice() == wanted && read_number(&text) == Some(number))
 }
 
 #[test]
@@ -88,10 +115,7 @@ fn numbers_have_one_text(rt: HostRuntime) -> Result<(), Fail> {
         (-LIMIT, 3, b"-170141183460469231731687303715884105727/3"),
     ];
     for (num, den, wanted) in rows {
-        let number = Fraction::of_parts(num, den).ok_or("no fraction")?;
-        let text = print_number(rt.alloc(), number)?;
-        assert_eq!(rt; text.as_slice(), wanted, "at {num}/{den}");
-        assert_eq!(rt; read_number(&text), Some(number), "at {num}/{den}");
+        assert!(rt; prints(rt.alloc(), num, den, wanted)?, "at {num}/{den}");
     }
     Ok(())
 }

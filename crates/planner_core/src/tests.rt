@@ -1,3 +1,5 @@
+//! Runs over files in memory, with the replies and statuses that they are to have.
+
 ghost use Rattle.std.specs.Prelude.{◌≡◌, IfOk};
 
 use crate::run;
@@ -32,7 +34,8 @@ fn split_words(alloc: Global, line: &str) -> Result<Vec<String>, AllocError> {
     Ok(words)
 }
 
-// A desk with these files; the one that is named is a byte too long, and the fetch of this number fails.
+// A desk with these files; the one that is named is a byte too long, and the fetch of this
+// number fails.
 fn desk_of(
     alloc: Global,
     texts: [&str; 3],
@@ -52,151 +55,157 @@ fn desk_of(
     Ok(desk)
 }
 
+// Whether a run over this desk gives this reply and this exit status.
+fn replies(
+    alloc: Global,
+    words: &str,
+    desk: MemoryDesk,
+    code: u8,
+    text: &str,
+) -> Result<bool, AllocError>
+    requires { desk.faults ≡ 0 }
+{
+    let words = split_words(alloc, words)?;
+    let mut desk = desk;
+    let mut sink = MemorySink::new(alloc, 100)?;
+    let status = run(alloc, &words, &mut desk, &mut sink);
+    Ok(status.code() == code && sink.bytes() == text.as_bytes())
+}
+
 #[test]
-fn words_and_fetches_are_answered(rt: HostRuntime) -> Result<(), Fail> {
+fn words_are_answered(rt: HostRuntime) -> Result<(), Fail> {
     let alloc = rt.alloc();
-    for (words, long, failing, code, text) in [
-        (VALIDATE, "", 0, 0, "valid cost 5.000\n"),
-        (VALIDATE, "", 1, 5, "read fault tank.pddl\n"),
-        (VALIDATE, "", 2, 5, "read fault tank_problem.pddl\n"),
-        (VALIDATE, "", 3, 5, "read fault tank.plan\n"),
-        (VALIDATE, "tank.pddl", 2, 3, "refused domain Long 1048577\n"),
-        (
-            VALIDATE,
-            "tank_problem.pddl",
-            3,
-            3,
-            "refused problem Long 1048577\n",
-        ),
-        (VALIDATE, "tank.plan", 0, 3, "refused plan Long 1048577\n"),
-        ("", "", 1, 2, USAGE),
-        (
-            "repair tank.pddl tank_problem.pddl tank.plan",
-            "",
-            1,
-            2,
-            USAGE,
-        ),
-        ("validate tank.pddl tank_problem.pddl", "", 1, 2, USAGE),
-        (
-            "validate tank.pddl tank_problem.pddl tank.plan tank.plan",
-            "",
-            1,
-            2,
-            USAGE,
-        ),
+    for words in [
+        "",
+        "repair tank.pddl tank_problem.pddl tank.plan",
+        "validate tank.pddl tank_problem.pddl",
+        "validate tank.pddl tank_problem.pddl tank.plan tank.plan",
     ] {
-        let words = split_words(alloc, words)?;
-        let mut desk = desk_of(alloc, [DOMAIN, PROBLEM, PLAN], long, failing)?;
-        let mut sink = MemorySink::new(alloc, 100)?;
-        let status = run(alloc, &words, &mut desk, &mut sink);
-        assert_eq!(rt; sink.bytes(), text.as_bytes());
-        assert_eq!(rt; status.code(), code, "{text}");
+        let desk = desk_of(alloc, [DOMAIN, PROBLEM, PLAN], "", 1)?;
+        assert!(rt; replies(alloc, words, desk, 2, USAGE)?, "{words}");
     }
     Ok(())
+}
+
+#[test]
+fn fetches_are_answered(rt: HostRuntime) -> Result<(), Fail> {
+    let alloc = rt.alloc();
+    for (long, failing, code, text) in [
+        ("", 0, 0, "valid cost 5.000\n"),
+        ("", 1, 5, "read fault tank.pddl\n"),
+        ("", 2, 5, "read fault tank_problem.pddl\n"),
+        ("", 3, 5, "read fault tank.plan\n"),
+        ("tank.pddl", 2, 3, "refused domain Long 1048577\n"),
+        ("tank_problem.pddl", 3, 3, "refused problem Long 1048577\n"),
+        ("tank.plan", 0, 3, "refused plan Long 1048577\n"),
+    ] {
+        let desk = desk_of(alloc, [DOMAIN, PROBLEM, PLAN], long, failing)?;
+        assert!(rt; replies(alloc, VALIDATE, desk, code, text)?, "{text}");
+    }
+    Ok(())
+}
+
+// The exit status of a run over the tank that is written to this sink.
+fn written(alloc: Global, sink: &mut MemorySink) -> Result<u8, AllocError>
+    requires { sink.old.puts ≡ 0 }
+{
+    let words = split_words(alloc, VALIDATE)?;
+    let mut desk = desk_of(alloc, [DOMAIN, PROBLEM, PLAN], "", 0)?;
+    Ok(run(alloc, &words, &mut desk, sink).code())
 }
 
 #[test]
 fn a_reply_goes_out_in_one_put(rt: HostRuntime) -> Result<(), Fail> {
     let alloc = rt.alloc();
-    let words = split_words(alloc, VALIDATE)?;
     for (room, call, code, text) in [
         (100, 1, 6, "val"),
         (10, 0, 6, "valid cost"),
         (100, 2, 0, "valid cost 5.000\n"),
     ] {
-        let mut desk = desk_of(alloc, [DOMAIN, PROBLEM, PLAN], "", 0)?;
         let mut sink = MemorySink::new(alloc, room)?;
         sink.fail_at(call, 3)?;
-        let status = run(alloc, &words, &mut desk, &mut sink);
-        assert_eq!(rt; sink.bytes(), text.as_bytes());
-        assert_eq!(rt; status.code(), code, "{text}");
+        assert_eq!(rt; written(alloc, &mut sink)?, code);
+        assert!(rt; sink.bytes() == text.as_bytes(), "{text}");
+    }
+    Ok(())
+}
+
+// Whether these texts are answered so.
+fn answers(alloc: Global, texts: [&str; 3], code: u8, text: &str) -> Result<bool, AllocError> {
+    replies(alloc, VALIDATE, desk_of(alloc, texts, "", 0)?, code, text)
+}
+
+#[test]
+fn plans_are_validated(rt: HostRuntime) -> Result<(), Fail> {
+    for (plan, code, text) in [
+        (
+            "; full\r\n\n 0 :( Fill )[10/2] ; now",
+            0,
+            "valid cost 5.000\n",
+        ),
+        ("0.25: (fill) [5]", 0, "valid cost 5.250\n"),
+        ("1/3: (fill) [5]", 0, "valid cost 16/3\n"),
+        ("; full\n-1: (fill) [5]", 1, "invalid time line 2\n"),
+        ("999996: (fill) [5]", 1, "invalid time line 1\n"),
+        ("0: (fill) [4]", 1, "invalid duration line 1\n"),
+        (
+            "1/170141183460469231731687303715884105727: (fill) [1/3]",
+            4,
+            "wide line 1\n",
+        ),
+    ] {
+        assert!(rt;
+            answers(rt.alloc(), [DOMAIN, PROBLEM, plan], code, text)?,
+            "{text}"
+        );
     }
     Ok(())
 }
 
 #[test]
-fn plans_are_validated(rt: HostRuntime) -> Result<(), Fail> {
+fn conditions_and_goals_are_validated(rt: HostRuntime) -> Result<(), Fail> {
     let alloc = rt.alloc();
-    let words = split_words(alloc, VALIDATE)?;
-    let from_1 = PROBLEM.replace(alloc, "(level) 0", "(level) 1")?;
-    let goal_11 = PROBLEM.replace(alloc, "(level) 10", "(level) 11")?;
-    let unconditional = DOMAIN.replace(alloc, "(over all (<= (level) 10))", "()")?;
-    for (texts, code, text) in [
+    for (old, new, text) in [
         (
-            [DOMAIN, PROBLEM, "; full\r\n\n 0 :( Fill )[10/2] ; now"],
-            0,
-            "valid cost 5.000\n",
-        ),
-        (
-            [DOMAIN, PROBLEM, "0.25: (fill) [5]"],
-            0,
-            "valid cost 5.250\n",
-        ),
-        ([DOMAIN, PROBLEM, "1/3: (fill) [5]"], 0, "valid cost 16/3\n"),
-        (
-            [DOMAIN, PROBLEM, "; full\n-1: (fill) [5]"],
-            1,
-            "invalid time line 2\n",
-        ),
-        (
-            [DOMAIN, PROBLEM, "999996: (fill) [5]"],
-            1,
-            "invalid time line 1\n",
-        ),
-        (
-            [DOMAIN, PROBLEM, "0: (fill) [4]"],
-            1,
-            "invalid duration line 1\n",
-        ),
-        (
-            [DOMAIN, from_1.as_str(), PLAN],
-            1,
+            "(level) 0",
+            "(level) 1",
             "invalid over all line 1 between 0.000 and 5.000\n",
         ),
-        ([DOMAIN, goal_11.as_str(), PLAN], 1, "invalid goal\n"),
+        ("(level) 10", "(level) 11", "invalid goal\n"),
+    ] {
+        let problem = PROBLEM.replace(alloc, old, new)?;
+        assert!(rt;
+            answers(alloc, [DOMAIN, problem.as_str(), PLAN], 1, text)?,
+            "{text}"
+        );
+    }
+    Ok(())
+}
+
+#[test]
+fn other_texts_are_refused(rt: HostRuntime) -> Result<(), Fail> {
+    for (texts, text) in [
+        (["", "", ""], "refused domain Unbuilt at byte 0\n"),
         (
-            [
-                DOMAIN,
-                PROBLEM,
-                "1/170141183460469231731687303715884105727: (fill) [1/3]",
-            ],
-            4,
-            "wide line 1\n",
-        ),
-        (
-            [unconditional.as_str(), PROBLEM, PLAN],
-            3,
+            [PROBLEM, PROBLEM, PLAN],
             "refused domain Unbuilt at byte 0\n",
         ),
-        (["", "", ""], 3, "refused domain Unbuilt at byte 0\n"),
-        (
-            [DOMAIN, DOMAIN, ""],
-            3,
-            "refused problem Unbuilt at byte 0\n",
-        ),
-        ([DOMAIN, PROBLEM, ""], 3, "refused plan Unbuilt at line 0\n"),
+        ([DOMAIN, DOMAIN, ""], "refused problem Unbuilt at byte 0\n"),
+        ([DOMAIN, PROBLEM, ""], "refused plan Unbuilt at line 0\n"),
         (
             [DOMAIN, PROBLEM, "0: (fill) [5]\n9: (fill) [5]"],
-            3,
             "refused plan Unbuilt at line 0\n",
         ),
         (
             [DOMAIN, PROBLEM, "0: (drain) [5]"],
-            3,
             "refused plan Unbuilt at line 0\n",
         ),
         (
             [DOMAIN, PROBLEM, "0: (fill)"],
-            3,
             "refused plan Unbuilt at line 0\n",
         ),
     ] {
-        let mut desk = desk_of(alloc, texts, "", 0)?;
-        let mut sink = MemorySink::new(alloc, 100)?;
-        let status = run(alloc, &words, &mut desk, &mut sink);
-        assert_eq!(rt; sink.bytes(), text.as_bytes());
-        assert_eq!(rt; status.code(), code, "{text}");
+        assert!(rt; answers(rt.alloc(), texts, 3, text)?, "{text}");
     }
     Ok(())
 }

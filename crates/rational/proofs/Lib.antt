@@ -15,3 +15,4 @@ pub mod Comparisons
 pub mod Coprime
 pub mod Equations
 pub mod Extremes
+pub mod Decimals

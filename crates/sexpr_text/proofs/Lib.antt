@@ -5,3 +5,4 @@ pub mod Faults
 pub mod Scanning
 pub mod Joining
 pub mod Unique
+pub mod NumberTokens

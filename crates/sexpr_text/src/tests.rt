@@ -1,4 +1,7 @@
+//! Texts with the tokens and the faults that they are to have.
+
 use crate::{LexFault, Token, TokenKind, read_forms};
+use std::alloc::{AllocError, Global};
 use std::test::Fail;
 
 const TANK: &[u8; 246] = b"(define (domain tank)
@@ -20,11 +23,10 @@ fn token(kind: TokenKind, at: u32, end: u32, mate: u32) -> Token {
     }
 }
 
-#[test]
-fn each_kind_has_its_span(rt: HostRuntime) -> Result<(), Fail> {
-    let text = b"(Go_2 ?X ; )\n :k-1 -1.5\t<= #t\r( .5))";
-    let forms = read_forms(rt.alloc(), text)?;
-    let wanted = [
+const EACH_KIND: &[u8; 36] = b"(Go_2 ?X ; )\n :k-1 -1.5\t<= #t\r( .5))";
+
+fn tokens_of_each_kind() -> [Token; 11] {
+    [
         token(TokenKind::Open, 0, 1, 10),
         token(TokenKind::Name, 1, 5, 1),
         token(TokenKind::Variable, 6, 8, 2),
@@ -36,10 +38,23 @@ fn each_kind_has_its_span(rt: HostRuntime) -> Result<(), Fail> {
         token(TokenKind::Number, 32, 34, 8),
         token(TokenKind::Close, 34, 35, 7),
         token(TokenKind::Close, 35, 36, 0),
-    ];
-    assert_eq!(rt; forms.tokens(), wanted.as_slice());
-    assert_eq!(rt; forms.text(), text.as_slice());
+    ]
+}
+
+#[test]
+fn each_kind_has_its_span(rt: HostRuntime) -> Result<(), Fail> {
+    let forms = read_forms(rt.alloc(), EACH_KIND)?;
+    assert!(rt; forms.tokens() == tokens_of_each_kind().as_slice());
+    assert!(rt; forms.text() == EACH_KIND.as_slice());
     Ok(())
+}
+
+// The fault of a short text, if it has one.
+fn fault_of(alloc: Global, text: &[u8]) -> Option<LexFault> {
+    if text.len() > 1000 {
+        return None;
+    }
+    read_forms(alloc, text).err()
 }
 
 #[test]
@@ -73,19 +88,25 @@ fn faults_have_their_places(rt: HostRuntime) {
         (b"(a ; )\r)", LexFault::Open(0)),
     ];
     for (text, wanted) in rows {
-        assert!(rt; text.len() < 100);
-        let fault = read_forms(rt.alloc(), text).err();
-        assert_eq!(rt; fault, Some(wanted), "at {wanted:?}");
+        assert_eq!(rt; fault_of(rt.alloc(), text), Some(wanted));
     }
 }
 
-/// So many of one byte, and then so many of another.
-fn repeated(rt: &HostRuntime, first: (u8, usize), second: (u8, usize)) -> Result<Vec<u8>, Fail> {
-    let mut text = vec![in rt.alloc(); first.0; first.1]?;
+// So many of one byte, and then so many of another.
+fn repeated(alloc: Global, first: (u8, usize), second: (u8, usize)) -> Result<Vec<u8>, AllocError> {
+    let mut text = vec![in alloc; first.0; first.1]?;
     for _ in 0..second.1 {
         text.push(second.0)?;
     }
     Ok(text)
+}
+
+fn fault_of_repeated(
+    alloc: Global,
+    first: (u8, usize),
+    second: (u8, usize),
+) -> Result<Option<LexFault>, AllocError> {
+    Ok(fault_of(alloc, &repeated(alloc, first, second)?))
 }
 
 #[test]
@@ -103,26 +124,37 @@ fn limits_are_exact(rt: HostRuntime) -> Result<(), Fail> {
         ((b'(', 2), (b')', 3), Some(LexFault::Close(4))),
     ];
     for (first, second, wanted) in rows {
-        let text = repeated(&rt, first, second)?;
-        assert!(rt; text.len() < 1000);
-        let fault = read_forms(rt.alloc(), &text).err();
-        assert_eq!(rt; fault, wanted, "at {first:?} {second:?}");
+        assert_eq!(rt; fault_of_repeated(rt.alloc(), first, second)?, wanted);
     }
     Ok(())
 }
 
-#[test]
-fn the_first_bytes_of_a_domain(rt: HostRuntime) -> Result<(), Fail> {
-    for n in 0..TANK.len() + 1 {
-        let outcome = read_forms(rt.alloc(), &TANK[..n]);
-        if n == 0 || n >= 245 {
-            let forms = outcome?;
-            assert_eq!(rt; forms.tokens().len(), if n == 0 { 0 } else { 56 });
-        } else {
-            assert_eq!(rt; outcome.err(), Some(LexFault::Open(0)), "at {n}");
-        }
+// How many tokens a short text has, if it has no fault.
+fn token_count(alloc: Global, text: &[u8]) -> Option<usize> {
+    if text.len() > 1000 {
+        return None;
     }
-    let comments = read_forms(rt.alloc(), b"; a ( $ \r b\n;;")?;
-    assert_eq!(rt; comments.tokens().len(), 0);
-    Ok(())
+    read_forms(alloc, text)
+        .ok()
+        .map(|forms| forms.tokens().len())
+}
+
+#[test]
+fn whole_texts_have_tokens(rt: HostRuntime) {
+    let rows = [
+        (b"".as_slice(), 0),
+        (b"; a ( $ \r b\n;;", 0),
+        (&TANK[..245], 56),
+        (TANK, 56),
+    ];
+    for (text, wanted) in rows {
+        assert_eq!(rt; token_count(rt.alloc(), text), Some(wanted));
+    }
+}
+
+#[test]
+fn the_first_bytes_of_a_domain_have_none(rt: HostRuntime) {
+    for n in 1..245 {
+        assert_eq!(rt; fault_of(rt.alloc(), &TANK[..n]), Some(LexFault::Open(0)));
+    }
 }
