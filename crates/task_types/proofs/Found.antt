@@ -2,9 +2,9 @@
 use Rattle.std.proofs.Common.{◌≡◌, refl, sym, ap, ◌∙◌, ℕ, Bool, true, false, ◌||◌, ◌==◌, List, [], ◌∷◌, ◌++◌}
 use Rattle.std.specs.List.{flat_map}
 use Rattle.task_types.specs.declared.parts.TaskParts.{TaskParts}
-use Rattle.task_types.specs.declared.reads.Relation.{Relation}
-use Rattle.task_types.specs.declared.reads.Relation.TheVariants.{ChangedFacts, WrittenFluents, BentFluents}
-use Rattle.task_types.specs.declared.tables.Index.{Index}
+use Rattle.task_types.specs.declared.touches.relations.Relation.{Relation}
+use Rattle.task_types.specs.declared.touches.relations.Relation.TheVariants.{ChangedFacts, WrittenFluents, BentFluents}
+use Rattle.task_types.specs.declared.touches.index.Index.{Index}
 use Rattle.task_types.specs.declared.tokens.Token.{Token}
 use Rattle.task_types.specs.declared.tokens.Token.TheVariants as token
 use Rattle.task_types.specs.declared.tokens.Touch.{Touch}

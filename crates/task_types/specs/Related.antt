@@ -1,14 +1,14 @@
--- Lists of facts, fluents and actions to which a snap action stands in some relation, and tables that lead back from them.
+-- Private: lists of facts, fluents and actions to which a snap action stands in some relation, tables that lead back from them, and rows of touches.
 use Rattle.std.specs.Prelude.{ℕ, ◌<◌, ◌≡◌, ◌==◌, ◌&&◌, ◌||◌, Bool, true, false, if◌then◌else◌, List, [], ◌∷◌, ◌++◌, length, slice_index_or}
 use Rattle.std.specs.List.{flat_map, enumerate_from}
 use Rattle.task_types.specs.declared.actions.Snap.{Snap}
 use Rattle.task_types.specs.declared.parts.TaskParts.{TaskParts}
-use Rattle.task_types.specs.declared.reads.Relation.{Relation}
-use Rattle.task_types.specs.declared.reads.Relation.TheVariants.{LookedFacts, ChangedFacts, LookedFluents, WrittenFluents, BentFluents, OwnAction}
+use Rattle.task_types.specs.declared.touches.relations.Relation.{Relation}
+use Rattle.task_types.specs.declared.touches.relations.Relation.TheVariants.{LookedFacts, ChangedFacts, LookedFluents, WrittenFluents, BentFluents, OwnAction}
 use Rattle.task_types.specs.Numbers.{is_in}
 use Rattle.task_types.specs.Plan.{snap_of}
 use Rattle.task_types.specs.Clash.{condition_facts, condition_fluents, read_facts, changed_facts, read_fluents, written_fluents}
-use Rattle.task_types.specs.declared.tables.Index.{Index}
+use Rattle.task_types.specs.declared.touches.index.Index.{Index}
 use Rattle.task_types.specs.declared.tokens.Token.{Token}
 use Rattle.task_types.specs.declared.tokens.Token.TheVariants as token
 use Rattle.task_types.specs.declared.tokens.Touch.{Touch}
