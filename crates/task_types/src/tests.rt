@@ -1,16 +1,18 @@
 //! Small tasks built by hand, and their touches beside tables that were written from the rules.
 
-ghost use Rattle.std.specs.Prelude.{◌≡◌, ◌++◌, ◌∷◌, [], IfOk, true, false, Some};
+ghost use Rattle.std.specs.Prelude.{◌≡◌, ◌+◌, ◌<◌, ◌∷◌, [], IfOk, true, false, codes};
 ghost use Rattle.rational.specs.Rational.{whole};
 ghost use Rattle.exact_lin.specs.Forms.{plus_term};
-ghost use Rattle.task_types.specs.Examples.{n, flags, gate, tank, linear, schema as schema_of, instant as instant_of, durative as durative_of, exactly as exactly_of, unset as unset_of, at_once as at_once_of, at_start as at_start_of, at_end as at_end_of, at_moment as at_moment_of, always_true as always, nothing as no_effect, makes as makes_of, ends_fact as ends_of, fact_holds, by_time as by_last_time};
+ghost use Rattle.task_types.specs.Examples.{n, flags, gate, tank, linear, schema as schema_of, instant as instant_of, durative as durative_of, exactly as exactly_of, unset as unset_of, at_once as at_once_of, at_start as at_start_of, at_end as at_end_of, at_moment as at_moment_of, always_true as always, asks as asks_of, fluent as fluent_of, nothing as no_effect, makes as makes_of, ends_fact as ends_of, fact_holds, by_time as by_last_time};
 
 use crate::{
-    Action, Bound, Condition, Effect, Fact, Literal, Metric, Schema, Snap, SnapKind, Task,
+    Action, Bound, Condition, Effect, Fact, Fluent, Literal, Metric, Schema, Snap, SnapKind, Task,
     TaskParts, Touch,
 };
-use exact_lin::{ActionId, FactId, FluentId, Form, FormFault, Fraction, Id, NoMemory, Scalar};
-use exact_lin::{SnapId, TokenId, Wide};
+use exact_lin::{
+    ActionId, FactId, FluentId, Form, FormFault, Fraction, Id, NoMemory, Scalar, SnapId, TokenId,
+    Wide,
+};
 use sqlite_items::Items;
 use std::alloc::Global;
 
@@ -226,7 +228,11 @@ fn exactly(alloc: Global, number: i32) -> Result<Items<Bound>, FormFault>
 fn flags_schemas(alloc: Global) -> Result<Items<Schema>, NoMemory>
     ensures { IfOk result (λ schemas. schemas ≡ flags.schemas) }
 {
-    both(alloc, schema(alloc, b"set", false)?, schema(alloc, b"use", false)?)
+    both(
+        alloc,
+        schema(alloc, b"set", false)?,
+        schema(alloc, b"use", false)?,
+    )
 }
 
 fn flags_facts(alloc: Global) -> Result<Items<Fact>, NoMemory>
@@ -245,7 +251,12 @@ fn flags_actions(alloc: Global) -> Result<Items<Action>, NoMemory>
 fn flags_snaps(alloc: Global) -> Result<Items<Snap>, NoMemory>
     ensures { IfOk result (λ snaps. snaps ≡ flags.snaps) }
 {
-    let set = at_once(alloc, ActionId::of(0), always_true(alloc), makes(alloc, FactId::of(0))?);
+    let set = at_once(
+        alloc,
+        ActionId::of(0),
+        always_true(alloc),
+        makes(alloc, FactId::of(0))?,
+    );
     let asked = asks(alloc, FactId::of(0))?;
     let used = at_once(alloc, ActionId::of(1), asked, makes(alloc, FactId::of(1))?);
     both(alloc, set, used)
@@ -263,6 +274,194 @@ fn flags_parts(alloc: Global) -> Result<TaskParts, NoMemory>
         snaps: flags_snaps(alloc)?,
         timed: Items::new(alloc),
         goal: asks(alloc, FactId::of(1))?,
+        hard: Items::new(alloc),
+        soft: Items::new(alloc),
+        metric: by_time(alloc),
+    })
+}
+
+// ---- a gate that is open from 5 to 10, and a pass that needs it open
+
+fn gate_facts(alloc: Global) -> Result<Items<Fact>, NoMemory>
+    ensures { IfOk result (λ facts. facts ≡ gate.facts) }
+{
+    both(alloc, unset(alloc, b"open")?, unset(alloc, b"through")?)
+}
+
+fn gate_actions(alloc: Global) -> Result<Items<Action>, FormFault>
+    ensures { IfOk result (λ actions. actions ≡ gate.actions) }
+{
+    let name = Items::from_slice(alloc, b"pass")?;
+    let bounds = exactly(alloc, 4)?;
+    let open = asks(alloc, FactId::of(0))?;
+    let pass = durative(alloc, name, SnapId::of(0), SnapId::of(1), bounds, open);
+    Ok(one(alloc, pass)?)
+}
+
+fn gate_passes(alloc: Global) -> Result<Items<Snap>, NoMemory>
+    ensures { IfOk result (λ snaps. snaps ≡ at_start_of 0 [] ∷ at_end_of 0 (makes_of 1) ∷ []) }
+{
+    let through = makes(alloc, FactId::of(1))?;
+    let start = at_start(alloc, ActionId::of(0), Items::new(alloc));
+    both(alloc, start, at_end(alloc, ActionId::of(0), through))
+}
+
+fn gate_moments(alloc: Global) -> Result<Items<Snap>, NoMemory>
+    ensures { IfOk result (λ snaps. snaps ≡ at_moment_of (makes_of 0) ∷ at_moment_of (ends_of 0) ∷ []) }
+{
+    let opens = at_moment(alloc, makes(alloc, FactId::of(0))?);
+    both(
+        alloc,
+        opens,
+        at_moment(alloc, ends_fact(alloc, FactId::of(0))?),
+    )
+}
+
+fn gate_snaps(alloc: Global) -> Result<Items<Snap>, NoMemory>
+    ensures { IfOk result (λ snaps. snaps ≡ gate.snaps) }
+{
+    let mut snaps = gate_passes(alloc)?;
+    snaps.append(gate_moments(alloc)?)?;
+    Ok(snaps)
+}
+
+fn gate_times(alloc: Global) -> Result<Items<(Fraction, SnapId)>, NoMemory>
+    ensures { IfOk result (λ timed. timed ≡ gate.timed) }
+{
+    both(
+        alloc,
+        (Fraction::of_int(5), SnapId::of(2)),
+        (Fraction::of_int(10), SnapId::of(3)),
+    )
+}
+
+fn gate_parts(alloc: Global) -> Result<TaskParts, FormFault>
+    ensures { IfOk result (λ parts. parts ≡ gate) }
+{
+    Ok(TaskParts {
+        objects: Items::new(alloc),
+        schemas: one(alloc, schema(alloc, b"pass", true)?)?,
+        facts: gate_facts(alloc)?,
+        fluents: Items::new(alloc),
+        actions: gate_actions(alloc)?,
+        snaps: gate_snaps(alloc)?,
+        timed: gate_times(alloc)?,
+        goal: asks(alloc, FactId::of(1))?,
+        hard: Items::new(alloc),
+        soft: Items::new(alloc),
+        metric: by_time(alloc),
+    })
+}
+
+// ---- a tank that fills and leaks
+
+fn level(alloc: Global) -> Result<Fluent, NoMemory>
+    ensures { IfOk result (λ fluent. fluent ≡ fluent_of (codes "level") (n 0)) }
+{
+    Ok(Fluent {
+        name: Items::from_slice(alloc, b"level")?,
+        args: Items::new(alloc),
+        value: Fraction::of_int(0),
+    })
+}
+
+fn with_level(
+    alloc: Global,
+    number: i32,
+    coefficient: i32,
+) -> Result<Form<FluentId, Fraction>, FormFault>
+    ensures { IfOk result (λ form. form ≡ plus_term (linear (whole number) []) 0 (whole coefficient)) }
+{
+    let mut form = constant(alloc, number)?;
+    form.add_term(FluentId::of(0), Fraction::of_int(coefficient))?;
+    Ok(form)
+}
+
+fn asks_level(alloc: Global, number: i32, coefficient: i32) -> Result<Condition, FormFault>
+    ensures { IfOk result (λ condition. condition ≡ asks_of (plus_term (linear (whole number) []) 0 (whole coefficient) ∷ [])) }
+{
+    Ok(Condition {
+        literals: Items::new(alloc),
+        comparisons: one(alloc, with_level(alloc, number, coefficient)?)?,
+    })
+}
+
+fn tank_action(
+    alloc: Global,
+    name: Items<u8>,
+    start: u32,
+    over_all: Condition,
+) -> Result<Action, FormFault>
+    requires { start < 3 }
+    ensures { IfOk result (λ action. action ≡ durative_of name start (start + 1) (exactly_of (n 5)) over_all) }
+{
+    let bounds = exactly(alloc, 5)?;
+    Ok(durative(
+        alloc,
+        name,
+        SnapId::of(start),
+        SnapId::of(start + 1),
+        bounds,
+        over_all,
+    ))
+}
+
+fn tank_actions(alloc: Global) -> Result<Items<Action>, FormFault>
+    ensures { IfOk result (λ actions. actions ≡ (tank (n 0)).actions) }
+{
+    let level_fits = asks_level(alloc, 10, -1)?;
+    let fill = tank_action(alloc, Items::from_slice(alloc, b"fill")?, 0, level_fits)?;
+    let leak = tank_action(
+        alloc,
+        Items::from_slice(alloc, b"leak")?,
+        2,
+        always_true(alloc),
+    )?;
+    Ok(both(alloc, fill, leak)?)
+}
+
+fn tank_pair(alloc: Global, action: u32, rate: i32) -> Result<Items<Snap>, NoMemory>
+    ensures { IfOk result (λ snaps. snaps ≡ at_start_of action ((0, whole rate) ∷ []) ∷ at_end_of action no_effect ∷ []) }
+{
+    let rates = one(alloc, (FluentId::of(0), Fraction::of_int(rate)))?;
+    let start = at_start(alloc, ActionId::of(action), rates);
+    both(
+        alloc,
+        start,
+        at_end(alloc, ActionId::of(action), nothing(alloc)),
+    )
+}
+
+fn tank_snaps(alloc: Global) -> Result<Items<Snap>, NoMemory>
+    ensures { IfOk result (λ snaps. snaps ≡ (tank (n 0)).snaps) }
+{
+    let mut snaps = tank_pair(alloc, 0, 2)?;
+    snaps.append(tank_pair(alloc, 1, -1)?)?;
+    Ok(snaps)
+}
+
+fn tank_schemas(alloc: Global) -> Result<Items<Schema>, NoMemory>
+    ensures { IfOk result (λ schemas. schemas ≡ (tank (n 0)).schemas) }
+{
+    both(
+        alloc,
+        schema(alloc, b"fill", true)?,
+        schema(alloc, b"leak", true)?,
+    )
+}
+
+fn tank_parts(alloc: Global) -> Result<TaskParts, FormFault>
+    ensures { IfOk result (λ parts. parts ≡ tank (n 0)) }
+{
+    Ok(TaskParts {
+        objects: Items::new(alloc),
+        schemas: tank_schemas(alloc)?,
+        facts: Items::new(alloc),
+        fluents: one(alloc, level(alloc)?)?,
+        actions: tank_actions(alloc)?,
+        snaps: tank_snaps(alloc)?,
+        timed: Items::new(alloc),
+        goal: asks_level(alloc, -10, 1)?,
         hard: Items::new(alloc),
         soft: Items::new(alloc),
         metric: by_time(alloc),
@@ -311,6 +510,16 @@ fn flags_task(alloc: Global) -> Result<Task, NoMemory> {
     Task::of_parts(alloc, parts)
 }
 
+fn gate_task(alloc: Global) -> Result<Task, FormFault> {
+    let parts = gate_parts(alloc)?;
+    Ok(Task::of_parts(alloc, parts)?)
+}
+
+fn tank_task(alloc: Global) -> Result<Task, FormFault> {
+    let parts = tank_parts(alloc)?;
+    Ok(Task::of_parts(alloc, parts)?)
+}
+
 #[test]
 fn a_task_tells_its_parts(rt: HostRuntime) {
     let task = flags_task(rt.alloc()).expect(&rt, "memory");
@@ -324,4 +533,30 @@ fn flags_are_touched(rt: HostRuntime) {
     let task = flags_task(rt.alloc()).expect(&rt, "memory");
     assert!(&rt; has_touches(&task, 0, &[(0, Touch::Mark)]));
     assert!(&rt; has_touches(&task, 1, &[(0, Touch::Look), (1, Touch::Mark)]));
+}
+
+// The pass watches the open gate, tokens 0 (open), 1 (through) and 2 (the pass).
+#[test]
+fn gate_is_touched(rt: HostRuntime) {
+    let task = gate_task(rt.alloc()).expect(&rt, "a task");
+    assert!(&rt; has_touches(&task, 0, &[(0, Touch::Look), (2, Touch::Mark)]));
+    assert!(&rt;
+        has_touches(
+            &task,
+            1,
+            &[(0, Touch::Look), (1, Touch::Mark), (2, Touch::Mark)]
+        )
+    );
+    assert!(&rt; has_touches(&task, 2, &[(0, Touch::Mark)]));
+    assert!(&rt; has_touches(&task, 3, &[(0, Touch::Mark)]));
+}
+
+// Filling watches the level, and both actions have rates on it; tokens 0 (the level), 1 (filling) and 2 (leaking).
+#[test]
+fn tank_is_touched(rt: HostRuntime) {
+    let task = tank_task(rt.alloc()).expect(&rt, "a task");
+    let fill = [(0, Touch::Look), (0, Touch::Bend), (1, Touch::Mark)];
+    let leak = [(0, Touch::Bend), (2, Touch::Mark)];
+    assert!(&rt; has_touches(&task, 0, &fill) && has_touches(&task, 1, &fill));
+    assert!(&rt; has_touches(&task, 2, &leak) && has_touches(&task, 3, &leak));
 }

@@ -1,9 +1,10 @@
 //! An index of a task: tables that lead from facts, fluents and actions back to the snap actions related to them.
 
-ghost use Rattle.std.specs.Prelude.{◌≡◌, ◌<◌, ◌^◌, length, map, OnOk, IfOk};
+ghost use Rattle.std.specs.Prelude.{◌≡◌, ◌<◌, ◌^◌, [], ◌∷◌, length, map, OnOk, IfOk};
 ghost use Rattle.task_types.specs.Related.{related, related_count, IsPut, LeadsBack, Tells, IsIndex};
 ghost use Rattle.task_types.specs.WellMade.{IsWellMade};
 
+use crate::actions::Snap;
 use crate::parts::TaskParts;
 use crate::touches::relations::{Relation, related_numbers};
 use crate::touches::rows::{empty_rows, put_in_row};
@@ -14,12 +15,23 @@ use std::alloc::Global;
 /// The tables of a task that lead back to its snap actions, each from the facts, fluents or actions of its name.
 #[derive(Drop)]
 pub struct Index {
-    pub looked_facts: Vec<Items<u32>>,
-    pub changed_facts: Vec<Items<u32>>,
-    pub looked_fluents: Vec<Items<u32>>,
-    pub written_fluents: Vec<Items<u32>>,
-    pub bent_fluents: Vec<Items<u32>>,
-    pub own_actions: Vec<Items<u32>>,
+    pub looked_facts: Items<Items<u32>>,
+    pub changed_facts: Items<Items<u32>>,
+    pub looked_fluents: Items<Items<u32>>,
+    pub written_fluents: Items<Items<u32>>,
+    pub bent_fluents: Items<Items<u32>>,
+    pub own_actions: Items<Items<u32>>,
+}
+
+// Puts a number at the end of a row, if there is such a row.
+fn put_at(rows: &mut Vec<Items<u32>>, row: u32, put: u32) -> Result<(), NoMemory>
+    ensures { OnOk result (IsPut rows.old.items rows.new.items (row ∷ []) put) }
+{
+    let at = row as usize;
+    if at < rows.len() {
+        put_in_row(rows, at, put)?;
+    }
+    Ok(())
 }
 
 // Puts a number at the end of each of some rows.
@@ -27,11 +39,26 @@ fn put_in_rows(rows: &mut Vec<Items<u32>>, numbers: &[u32], put: u32) -> Result<
     ensures { OnOk result (IsPut rows.old.items rows.new.items numbers.now put) }
 {
     for number in numbers {
-        let at = *number as usize;
-        if at < rows.len() {
-            put_in_row(rows, at, put)?;
-        }
+        put_at(rows, *number, put)?;
     }
+    Ok(())
+}
+
+// Puts the place of a snap action at the end of the rows of all that it is related to.
+fn put_snap(
+    alloc: Global,
+    rows: &mut Vec<Items<u32>>,
+    parts: &TaskParts,
+    relation: Relation,
+    snap: &Snap,
+    place: u32,
+) -> Result<(), NoMemory>
+    ensures {
+        OnOk result (IsPut rows.old.items rows.new.items (related parts.now relation snap.now) place)
+    }
+{
+    let numbers = related_numbers(alloc, parts, relation, snap)?;
+    put_in_rows(rows, numbers.as_slice(), place)?;
     Ok(())
 }
 
@@ -43,13 +70,15 @@ fn leading_back(
     count: usize,
 ) -> Result<Vec<Items<u32>>, NoMemory>
     requires { length parts.now.snaps < 2 ^ 32 }
-    ensures { IfOk result (λ rows. LeadsBack rows.items count (map (related parts.now relation) parts.now.snaps)) }
+    ensures {
+        IfOk result
+            (λ rows. LeadsBack rows.items count (map (related parts.now relation) parts.now.snaps))
+    }
 {
     let mut rows = empty_rows(alloc, count)?;
     let mut place = 0u32;
     for snap in parts.snaps.as_slice() {
-        let numbers = related_numbers(alloc, parts, relation, snap)?;
-        put_in_rows(&mut rows, numbers.as_slice(), place)?;
+        put_snap(alloc, &mut rows, parts, relation, snap, place)?;
         place += 1;
     }
     Ok(rows)
@@ -73,12 +102,12 @@ fn table_of(
     alloc: Global,
     parts: &TaskParts,
     relation: Relation,
-) -> Result<Vec<Items<u32>>, NoMemory>
+) -> Result<Items<Items<u32>>, NoMemory>
     requires { IsWellMade parts.now }
-    ensures { IfOk result (λ rows. Tells parts.now relation rows.items) }
+    ensures { IfOk result (λ rows. Tells parts.now relation rows) }
 {
     let rows = leading_back(alloc, parts, relation, count_of(parts, relation))?;
-    Ok(rows)
+    Ok(Items::from_vec(rows))
 }
 
 /// The tables of a task.

@@ -92,12 +92,10 @@ fn start_of(parts: &TaskParts, id: ActionId) -> SnapId
 
 // The over-all condition that a step watches, if there is one.
 fn watched<'a>(parts: &'a TaskParts, snap: &Snap) -> Option<&'a Condition>
-    ensures {
-        MatchOption result
-            ((flat_map condition_facts (watches parts.now snap.now) ≡ [])
-                × (flat_map condition_fluents (watches parts.now snap.now) ≡ []))
-            (λ condition. watches parts.now snap.now ≡ condition.now ∷ [])
-    }
+    ensures { MatchOption result
+        ((flat_map condition_facts (watches parts.now snap.now) ≡ [])
+        × (flat_map condition_fluents (watches parts.now snap.now) ≡ []))
+        (λ condition. watches parts.now snap.now ≡ condition.now ∷ []) }
 {
     let id = durative_action(snap)?;
     match action_at(parts, id) {

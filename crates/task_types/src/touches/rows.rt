@@ -20,10 +20,8 @@ pub fn empty_rows<T: Drop>(alloc: Global, count: usize) -> Result<Vec<Items<T>>,
 /// Puts an item at the end of a row.
 pub fn put_in_row<T: Drop>(rows: &mut Vec<Items<T>>, at: usize, item: T) -> Result<(), NoMemory>
     requires { at < vec_len rows.old }
-    ensures {
-        OnOk result
-            (rows.new.items ≡ slice_set rows.old.items at (slice_index_or rows.old.items at [] ++ item ∷ []))
-    }
+    ensures { OnOk result
+        (rows.new.items ≡ slice_set rows.old.items at (slice_index_or rows.old.items at [] ++ item ∷ [])) }
 {
     let row = &mut rows[at];
     row.push(item)?;

@@ -88,11 +88,9 @@ fn put_from_each<I: Id>(
     table: &[Items<u32>],
     ids: &[I],
 ) -> Result<(), NoMemory>
-    ensures {
-        OnOk result
-            (ArePut rows.old.items rows.new.items entry.now.0 entry.now.1
-                (flat_map (λ id. row_of table.now (I.number_of id)) ids.now))
-    }
+    ensures { OnOk result
+        (ArePut rows.old.items rows.new.items entry.now.0 entry.now.1
+        (flat_map (λ id. row_of table.now (I.number_of id)) ids.now)) }
 {
     for id in ids {
         put_from(rows, entry, table, id.number())?;
@@ -108,8 +106,18 @@ fn put_fact(
 ) -> Result<(), NoMemory>
     ensures { OnOk result (IsPutInAll rows.old.items rows.new.items index.now token (Token.Fact fact)) }
 {
-    put_from(rows, &(token, Touch::Look), index.looked_facts.as_slice(), fact.number())?;
-    put_from(rows, &(token, Touch::Mark), index.changed_facts.as_slice(), fact.number())?;
+    put_from(
+        rows,
+        &(token, Touch::Look),
+        index.looked_facts.as_slice(),
+        fact.number(),
+    )?;
+    put_from(
+        rows,
+        &(token, Touch::Mark),
+        index.changed_facts.as_slice(),
+        fact.number(),
+    )?;
     Ok(())
 }
 
@@ -121,9 +129,24 @@ fn put_fluent(
 ) -> Result<(), NoMemory>
     ensures { OnOk result (IsPutInAll rows.old.items rows.new.items index.now token (Token.Fluent fluent)) }
 {
-    put_from(rows, &(token, Touch::Look), index.looked_fluents.as_slice(), fluent.number())?;
-    put_from(rows, &(token, Touch::Mark), index.written_fluents.as_slice(), fluent.number())?;
-    put_from(rows, &(token, Touch::Bend), index.bent_fluents.as_slice(), fluent.number())?;
+    put_from(
+        rows,
+        &(token, Touch::Look),
+        index.looked_fluents.as_slice(),
+        fluent.number(),
+    )?;
+    put_from(
+        rows,
+        &(token, Touch::Mark),
+        index.written_fluents.as_slice(),
+        fluent.number(),
+    )?;
+    put_from(
+        rows,
+        &(token, Touch::Bend),
+        index.bent_fluents.as_slice(),
+        fluent.number(),
+    )?;
     Ok(())
 }
 
@@ -135,15 +158,28 @@ fn put_comparison(
     action: ActionId,
     fluents: &Items<FluentId>,
 ) -> Result<(), NoMemory>
-    ensures {
-        OnOk result
-            (IsPutInAll rows.old.items rows.new.items index.now token (Token.Comparison action fluents.now))
-    }
+    ensures { OnOk result
+        (IsPutInAll rows.old.items rows.new.items index.now token (Token.Comparison action fluents.now)) }
 {
     let changed = fluents.as_slice();
-    put_from(rows, &(token, Touch::Look), index.own_actions.as_slice(), action.number())?;
-    put_from_each(rows, &(token, Touch::Mark), index.written_fluents.as_slice(), changed)?;
-    put_from_each(rows, &(token, Touch::Bend), index.bent_fluents.as_slice(), changed)?;
+    put_from(
+        rows,
+        &(token, Touch::Look),
+        index.own_actions.as_slice(),
+        action.number(),
+    )?;
+    put_from_each(
+        rows,
+        &(token, Touch::Mark),
+        index.written_fluents.as_slice(),
+        changed,
+    )?;
+    put_from_each(
+        rows,
+        &(token, Touch::Bend),
+        index.bent_fluents.as_slice(),
+        changed,
+    )?;
     Ok(())
 }
 
@@ -155,7 +191,12 @@ fn put_formulas(
 ) -> Result<(), NoMemory>
     ensures { OnOk result (IsPutInAll rows.old.items rows.new.items index.now token (Token.Formulas facts.now)) }
 {
-    put_from_each(rows, &(token, Touch::Mark), index.changed_facts.as_slice(), facts.as_slice())?;
+    put_from_each(
+        rows,
+        &(token, Touch::Mark),
+        index.changed_facts.as_slice(),
+        facts.as_slice(),
+    )?;
     Ok(())
 }
 
@@ -167,7 +208,12 @@ fn put_action(
 ) -> Result<(), NoMemory>
     ensures { OnOk result (IsPutInAll rows.old.items rows.new.items index.now token (Token.Action action)) }
 {
-    put_from(rows, &(token, Touch::Mark), index.own_actions.as_slice(), action.number())?;
+    put_from(
+        rows,
+        &(token, Touch::Mark),
+        index.own_actions.as_slice(),
+        action.number(),
+    )?;
     Ok(())
 }
 
