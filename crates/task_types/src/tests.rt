@@ -35,6 +35,12 @@ fn both<T: Drop>(alloc: Global, item: T, other: T) -> Result<Items<T>, NoMemory>
     Ok(items)
 }
 
+fn text(alloc: Global, bytes: &[u8]) -> Result<Items<u8>, NoMemory>
+    ensures { IfOk result (λ items. items ≡ bytes.now) }
+{
+    Ok(Items::from_slice(alloc, bytes)?)
+}
+
 // ---- parts of tasks
 
 fn schema(alloc: Global, name: &[u8], durative: bool) -> Result<Schema, NoMemory>
@@ -291,7 +297,7 @@ fn gate_facts(alloc: Global) -> Result<Items<Fact>, NoMemory>
 fn gate_actions(alloc: Global) -> Result<Items<Action>, FormFault>
     ensures { IfOk result (λ actions. actions ≡ gate.actions) }
 {
-    let name = Items::from_slice(alloc, b"pass")?;
+    let name = text(alloc, b"pass")?;
     let bounds = exactly(alloc, 4)?;
     let open = asks(alloc, FactId::of(0))?;
     let pass = durative(alloc, name, SnapId::of(0), SnapId::of(1), bounds, open);
@@ -410,10 +416,10 @@ fn tank_actions(alloc: Global) -> Result<Items<Action>, FormFault>
     ensures { IfOk result (λ actions. actions ≡ (tank (n 0)).actions) }
 {
     let level_fits = asks_level(alloc, 10, -1)?;
-    let fill = tank_action(alloc, Items::from_slice(alloc, b"fill")?, 0, level_fits)?;
+    let fill = tank_action(alloc, text(alloc, b"fill")?, 0, level_fits)?;
     let leak = tank_action(
         alloc,
-        Items::from_slice(alloc, b"leak")?,
+        text(alloc, b"leak")?,
         2,
         always_true(alloc),
     )?;

@@ -218,19 +218,29 @@ fn push_tracked_tokens(
     Ok(())
 }
 
+fn push_tokens(alloc: Global, out: &mut Items<Token>, parts: &TaskParts) -> Result<(), NoMemory>
+    requires facts { length parts.now.facts < 2 ^ 32 }
+    requires fluents { length parts.now.fluents < 2 ^ 32 }
+    requires actions { length parts.now.actions < 2 ^ 32 }
+    ensures { OnOk result (out.new ≡ out.old ++ tokens parts.now) }
+{
+    push_fact_tokens(out, parts.facts.len())?;
+    push_tracked_tokens(alloc, out, parts)?;
+    push_all_comparison_tokens(alloc, out, parts.actions.as_slice())?;
+    push_trail_tokens(alloc, out, parts.hard.as_slice())?;
+    push_soft_tokens(alloc, out, parts.soft.as_slice())?;
+    push_action_tokens(out, parts.actions.as_slice())?;
+    Ok(())
+}
+
 /// The tokens of a task, in their order.
 pub fn tokens_of(alloc: Global, parts: &TaskParts) -> Result<Items<Token>, NoMemory>
     requires facts { length parts.now.facts < 2 ^ 32 }
     requires fluents { length parts.now.fluents < 2 ^ 32 }
     requires actions { length parts.now.actions < 2 ^ 32 }
-    ensures { IfOk result (λ ts. ts ≡ tokens parts.now) }
+    ensures { IfOk result (λ list. list ≡ tokens parts.now) }
 {
     let mut list = Items::new(alloc);
-    push_fact_tokens(&mut list, parts.facts.len())?;
-    push_tracked_tokens(alloc, &mut list, parts)?;
-    push_all_comparison_tokens(alloc, &mut list, parts.actions.as_slice())?;
-    push_trail_tokens(alloc, &mut list, parts.hard.as_slice())?;
-    push_soft_tokens(alloc, &mut list, parts.soft.as_slice())?;
-    push_action_tokens(&mut list, parts.actions.as_slice())?;
+    push_tokens(alloc, &mut list, parts)?;
     Ok(list)
 }
