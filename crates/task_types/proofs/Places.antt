@@ -2,21 +2,15 @@
 use Rattle.std.proofs.Common.{◌≡◌, refl, sym, ap, ◌∙◌, ℕ, zero, suc, ◌+◌, ◌<◌, Bool, true, false, cond, List, [], ◌∷◌, ◌++◌, length, map, take, arith, append_assoc}
 use Rattle.std.specs.Prelude.{slice_index_or, if◌then◌else◌}
 use Rattle.std.specs.List.{filter, flat_map, range_with_len, enumerate_from}
-use Rattle.std.proofs.lemmas.List.{append-nil, map-append, take_more}
+use Rattle.std.proofs.lemmas.List.{append-nil, map-append, map-id, take_more}
+use Rattle.std.proofs.lemmas.List.FromFn.{map-range_with_len_more}
 use Rattle.std.proofs.lemmas.List.Concat.{flat_map-append}
 use Rattle.std.proofs.lemmas.List.Elements.{filter-append}
 use Rattle.task_types.specs.Numbers.{numbers, is_in}
 use Rattle.task_types.specs.Related.{IsFlags}
 
-range-more : (a i : ℕ) → range_with_len a (i + 1) ≡ range_with_len a i ++ (a + i) ∷ []
-range-more a zero = let e : a + 0 ≡ a = omega arith in rw e refl
-range-more a (suc i) =
-    let s : suc i + 1 ≡ suc (i + 1) = omega arith in
-    let t : a + 1 + i ≡ a + suc i = omega arith in
-    rw s (ap (λ l. a ∷ l) (range-more (a + 1) i ∙ ap (λ k. range_with_len (a + 1) i ++ k ∷ []) t))
-
 pub numbers-more : (i : ℕ) → numbers (i + 1) ≡ numbers i ++ i ∷ []
-numbers-more i = let e : 0 + i ≡ i = omega arith in range-more 0 i ∙ ap (λ k. numbers i ++ k ∷ []) e
+numbers-more i = sym (map-id (numbers (i + 1))) ∙ map-range_with_len_more (λ k. k) 0 i i (omega arith) ∙ ap (λ l. l ++ i ∷ []) (map-id (numbers i))
 
 module _ {X : Type 0} where
   enumerate_from-more : (a : ℕ) (xs : List X) (i : ℕ) (x : X) → i < length xs → x ≡ slice_index_or xs i x → enumerate_from a (take (i + 1) xs) ≡ enumerate_from a (take i xs) ++ (a + i, x) ∷ []

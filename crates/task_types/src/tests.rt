@@ -417,12 +417,7 @@ fn tank_actions(alloc: Global) -> Result<Items<Action>, FormFault>
 {
     let level_fits = asks_level(alloc, 10, -1)?;
     let fill = tank_action(alloc, text(alloc, b"fill")?, 0, level_fits)?;
-    let leak = tank_action(
-        alloc,
-        text(alloc, b"leak")?,
-        2,
-        always_true(alloc),
-    )?;
+    let leak = tank_action(alloc, text(alloc, b"leak")?, 2, always_true(alloc))?;
     Ok(both(alloc, fill, leak)?)
 }
 

@@ -191,12 +191,8 @@ fn put_formulas(
 ) -> Result<(), NoMemory>
     ensures { OnOk result (IsPutInAll rows.old.items rows.new.items index.now token (Token.Formulas facts.now)) }
 {
-    put_from_each(
-        rows,
-        &(token, Touch::Mark),
-        index.changed_facts.as_slice(),
-        facts.as_slice(),
-    )?;
+    let changed = index.changed_facts.as_slice();
+    put_from_each(rows, &(token, Touch::Mark), changed, facts.as_slice())?;
     Ok(())
 }
 
