@@ -87,8 +87,7 @@ module _ (put : ℕ) where
       together false true c d = refl
       together false false c d = refl
 
-pub length-map-take : {X Y : Type 0} (f : X → Y) (xs : List X) (i : ℕ) → i ≤ length xs → length (map f (take i xs)) ≡ i
-length-map-take f [] zero h = refl
-length-map-take f [] (suc i) h = absurd (omega arith)
+pub length-map-take : {X Y : Type 0} (f : X → Y) (xs : List X) (i : ℕ) → i < length xs → length (map f (take i xs)) ≡ i
+length-map-take f [] i h = absurd (omega arith)
 length-map-take f (y ∷ ys) zero h = refl
 length-map-take f (y ∷ ys) (suc i) h = ap suc (length-map-take f ys i (omega arith))
