@@ -13,7 +13,7 @@ use Rattle.task_types.specs.declared.tokens.Touch.TheVariants.{Look, Mark, Bend}
 use Rattle.task_types.specs.Plan.{snap_of, no_snap}
 use Rattle.task_types.specs.Touch.{touches_on, touches_of, tokens, looks, marks, bends}
 use Rattle.task_types.specs.Related.{IsIndex, IsPutInAll, HaveTouches, is_last, same_touch, put_last, put_where, found, touches_on_first}
-use Rattle.task_types.proofs.Everyone.{and_left, and_right, and_in}
+use Rattle.task_types.proofs.Everyone.{and_left, and_right}
 use Rattle.task_types.proofs.Found.{found-touching}
 use Rattle.task_types.proofs.LastEntries.{is_last-append}
 use Rattle.task_types.proofs.Places.{flat_map-enumerate-more}

@@ -313,7 +313,8 @@ fn gate_passes(alloc: Global) -> Result<Items<Snap>, NoMemory>
 }
 
 fn gate_moments(alloc: Global) -> Result<Items<Snap>, NoMemory>
-    ensures { IfOk result (λ snaps. snaps ≡ at_moment_of (makes_of 0) ∷ at_moment_of (ends_of 0) ∷ []) }
+    ensures { IfOk result
+        (λ snaps. snaps ≡ at_moment_of (makes_of 0) ∷ at_moment_of (ends_of 0) ∷ []) }
 {
     let opens = at_moment(alloc, makes(alloc, FactId::of(0))?);
     both(
@@ -376,7 +377,8 @@ fn with_level(
     number: i32,
     coefficient: i32,
 ) -> Result<Form<FluentId, Fraction>, FormFault>
-    ensures { IfOk result (λ form. form ≡ plus_term (linear (whole number) []) 0 (whole coefficient)) }
+    ensures { IfOk result
+        (λ form. form ≡ plus_term (linear (whole number) []) 0 (whole coefficient)) }
 {
     let mut form = constant(alloc, number)?;
     form.add_term(FluentId::of(0), Fraction::of_int(coefficient))?;
@@ -384,7 +386,9 @@ fn with_level(
 }
 
 fn asks_level(alloc: Global, number: i32, coefficient: i32) -> Result<Condition, FormFault>
-    ensures { IfOk result (λ condition. condition ≡ asks_of (plus_term (linear (whole number) []) 0 (whole coefficient) ∷ [])) }
+    ensures { IfOk result
+        (λ condition. condition ≡ asks_of (plus_term (linear (whole number) []) 0 (whole
+        coefficient) ∷ [])) }
 {
     Ok(Condition {
         literals: Items::new(alloc),
@@ -399,7 +403,8 @@ fn tank_action(
     over_all: Condition,
 ) -> Result<Action, FormFault>
     requires { start < 3 }
-    ensures { IfOk result (λ action. action ≡ durative_of name start (start + 1) (exactly_of (n 5)) over_all) }
+    ensures { IfOk result
+        (λ action. action ≡ durative_of name start (start + 1) (exactly_of (n 5)) over_all) }
 {
     let bounds = exactly(alloc, 5)?;
     Ok(durative(
@@ -422,7 +427,9 @@ fn tank_actions(alloc: Global) -> Result<Items<Action>, FormFault>
 }
 
 fn tank_pair(alloc: Global, action: u32, rate: i32) -> Result<Items<Snap>, NoMemory>
-    ensures { IfOk result (λ snaps. snaps ≡ at_start_of action ((0, whole rate) ∷ []) ∷ at_end_of action no_effect ∷ []) }
+    ensures { IfOk result
+        (λ snaps. snaps ≡ at_start_of action ((0, whole rate) ∷ []) ∷ at_end_of action
+        no_effect ∷ []) }
 {
     let rates = one(alloc, (FluentId::of(0), Fraction::of_int(rate)))?;
     let start = at_start(alloc, ActionId::of(action), rates);

@@ -107,7 +107,8 @@ fn flags_of(alloc: Global, numbers: &[u32], count: usize) -> Result<Vec<bool>, N
 
 /// A flag for each fluent, set where it is tracked.
 pub fn tracked_flags(alloc: Global, parts: &TaskParts) -> Result<Vec<bool>, NoMemory>
-    ensures { IfOk result (λ flags. IsFlags flags.items (length parts.now.fluents) (tracked_fluents parts.now)) }
+    ensures { IfOk result
+        (λ flags. IsFlags flags.items (length parts.now.fluents) (tracked_fluents parts.now)) }
 {
     let mut fluents = Items::new(alloc);
     push_tracked(&mut fluents, parts)?;

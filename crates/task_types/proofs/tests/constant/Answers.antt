@@ -1,5 +1,5 @@
 use Rattle.std.proofs.Common.{rules, ◌≡◌, ap, ◌∙◌, [], ◌∷◌, refl}
-use Rattle.rational.specs.Rational.{ℚ, zeroℚ, whole}
+use Rattle.rational.specs.Rational.{zeroℚ, whole}
 use Rattle.rational.proofs.Ring.{law, ◌⊕◌, num, ◌≐◌}
 use Rattle.rational.proofs.Field.{ℚ_ring}
 use Rattle.exact_lin.specs.Forms.{constant_form, plus_constant}

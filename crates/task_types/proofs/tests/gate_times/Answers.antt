@@ -1,4 +1,3 @@
-use Rattle.std.proofs.Common.{refl}
 use Rattle.rational.specs.Gcd.{gcd}
 use Rattle.rational.specs.Rational.{ratio, whole}
 use Rattle.task_types.proofs.tests.gate_times.Goals as goal
