@@ -157,8 +157,8 @@ split_eight a b c d e f g h m =
     let m2 = append_left (a ++ b) c m3 in
     (append_left a b m2, append_right a b m2, append_right (a ++ b) c m3, append_right (a ++ b ++ c) d m4, append_right (a ++ b ++ c ++ d) e m5, append_right (a ++ b ++ c ++ d ++ e) f m6, append_right (a ++ b ++ c ++ d ++ e ++ f) g m7, append_right (a ++ b ++ c ++ d ++ e ++ f ++ g) h m)
 
--- a plan whose lines have durations where they should is valid exactly where each duty is met
-pub valid-duties : (task : TaskParts) (rules : Rules) (plan : Plan) → AllByRecursion (IsFormed task) plan → Valid task rules plan ↔ EachMet (duties task rules plan)
+-- a formed plan is valid exactly where each duty is met
+pub valid-duties : (task : TaskParts) (rules : Rules) (plan : Plan) → IsFormed task plan → Valid task rules plan ↔ EachMet (duties task rules plan)
 unfolding duties
 valid-duties task rules plan formed = (there, back)
   where
@@ -177,6 +177,7 @@ valid-duties task rules plan formed = (there, back)
     back m = let r = split_eight (map (λ l. duty (reason.Time l.line) (is_in_time rules l)) plan) (map (λ l. duty (reason.Duration l.line) (has_fit_duration task rules plan l)) plan) (clash_duties task rules plan) (map (λ l. duty (reason.Start l.line) (can_start task plan l)) plan) (map (λ l. duty (reason.End l.line) (can_end task plan l)) plan) (over_alls task plan plan) (duty reason.Goal (holds task.goal (last_state task plan)) ∷ []) (map (λ c. duty (reason.Constraint c.0) (met c.1 (trace task plan))) (enumerate_from 1 task.hard)) m in
         let c = clashes_out task rules plan r.2 in
         record {
+          formed = formed;
           in_time = met_out (λ l. reason.Time l.line) (is_in_time rules) plan r.0;
           durations = met_out (λ l. reason.Duration l.line) (has_fit_duration task rules plan) plan r.1;
           apart = and_in (each_apart task rules (flat_map (line_steps task) plan)) (all_apart task rules (flat_map (line_steps task) plan) (timed_steps task)) c.0 c.1;

@@ -61,11 +61,11 @@ touches_come_out = record {
 
 tank_over_all : HoldsOverAll (tank (n 0)) fill (lasting 0 (n 0) (n 5) 1)
 unfolding gcd ratio whole ◌+ℚ◌ ◌*ℚ◌ neg_ℚ cmp_ℚ value holds happenings initial rate moved happen reached before after
-tank_over_all = (segment (tank (n 0)) fill 0 (action_of (tank (n 0)) 0).over_all (omega arith) (refl, tt)).1 (refl, refl)
+tank_over_all = (segment (tank (n 0)) fill 0 (action_of (tank (n 0)) 0).over_all (omega arith) refl).1 (refl, refl)
 
 tank_valid : Valid (tank (n 0)) rules fill
 unfolding gcd ratio whole ◌+ℚ◌ ◌*ℚ◌ neg_ℚ cmp_ℚ value holds happenings initial rate moved happen reached before after clash met
-tank_valid = record { in_time = refl; durations = refl; apart = refl; starts = refl; ends = refl; over_all = (tank_over_all, tt); goal = refl; constraints = refl }
+tank_valid = record { formed = refl; in_time = refl; durations = refl; apart = refl; starts = refl; ends = refl; over_all = (tank_over_all, tt); goal = refl; constraints = refl }
 
 -- a condition of one comparison
 holds_one : (form : LinearForm) (s : State) → holds (record { literals = []; comparisons = form ∷ [] }) s ≡ (zeroℚ ≤? value form s.fluents)
@@ -117,7 +117,7 @@ nothing_asked task plan l e t h k = subst (λ c. IsTrue (holds c (before task pl
 
 charged : Valid (charge true) rules (lasting 0 (n 0) (n 1) 1 ∷ [])
 unfolding gcd ratio whole ◌+ℚ◌ ◌*ℚ◌ neg_ℚ cmp_ℚ value holds happenings initial rate moved happen reached before after clash met
-charged = record { in_time = refl; durations = refl; apart = refl; starts = refl; ends = refl; over_all = (nothing_asked (charge true) (lasting 0 (n 0) (n 1) 1 ∷ []) (lasting 0 (n 0) (n 1) 1) refl, tt); goal = refl; constraints = refl }
+charged = record { formed = refl; in_time = refl; durations = refl; apart = refl; starts = refl; ends = refl; over_all = (nothing_asked (charge true) (lasting 0 (n 0) (n 1) 1 ∷ []) (lasting 0 (n 0) (n 1) 1) refl, tt); goal = refl; constraints = refl }
 
 not_charged : IsFirstReason (charge false) rules (lasting 0 (n 0) (n 1) 1 ∷ []) (reason.Duration 1)
 unfolding gcd ratio whole ◌+ℚ◌ ◌*ℚ◌ neg_ℚ cmp_ℚ value holds happenings initial rate moved happen reached before after clash met duties
@@ -144,11 +144,11 @@ too_near = inr (refl, inr (refl, inr (refl, inr (refl, inr (refl, inl ((λ e. le
 
 near_enough : Valid flags rules (once 0 (n 1) 1 ∷ once 1 (ratio (pos 1001) 1000) 2 ∷ [])
 unfolding gcd ratio whole ◌+ℚ◌ ◌*ℚ◌ neg_ℚ cmp_ℚ value holds happenings initial rate moved happen reached before after clash met
-near_enough = record { in_time = refl; durations = refl; apart = refl; starts = refl; ends = refl; over_all = (nothing_asked flags (once 0 (n 1) 1 ∷ once 1 (ratio (pos 1001) 1000) 2 ∷ []) (once 0 (n 1) 1) refl, (nothing_asked flags (once 0 (n 1) 1 ∷ once 1 (ratio (pos 1001) 1000) 2 ∷ []) (once 1 (ratio (pos 1001) 1000) 2) refl, tt)); goal = refl; constraints = refl }
+near_enough = record { formed = refl; in_time = refl; durations = refl; apart = refl; starts = refl; ends = refl; over_all = (nothing_asked flags (once 0 (n 1) 1 ∷ once 1 (ratio (pos 1001) 1000) 2 ∷ []) (once 0 (n 1) 1) refl, (nothing_asked flags (once 0 (n 1) 1 ∷ once 1 (ratio (pos 1001) 1000) 2 ∷ []) (once 1 (ratio (pos 1001) 1000) 2) refl, tt)); goal = refl; constraints = refl }
 
 both_count : Valid meters rules (once 0 (n 0) 1 ∷ once 1 (n 0) 2 ∷ [])
 unfolding gcd ratio whole ◌+ℚ◌ ◌*ℚ◌ neg_ℚ cmp_ℚ value holds happenings initial rate moved happen reached before after clash met
-both_count = record { in_time = refl; durations = refl; apart = refl; starts = refl; ends = refl; over_all = (nothing_asked meters (once 0 (n 0) 1 ∷ once 1 (n 0) 2 ∷ []) (once 0 (n 0) 1) refl, (nothing_asked meters (once 0 (n 0) 1 ∷ once 1 (n 0) 2 ∷ []) (once 1 (n 0) 2) refl, tt)); goal = refl; constraints = refl }
+both_count = record { formed = refl; in_time = refl; durations = refl; apart = refl; starts = refl; ends = refl; over_all = (nothing_asked meters (once 0 (n 0) 1 ∷ once 1 (n 0) 2 ∷ []) (once 0 (n 0) 1) refl, (nothing_asked meters (once 0 (n 0) 1 ∷ once 1 (n 0) 2 ∷ []) (once 1 (n 0) 2) refl, tt)); goal = refl; constraints = refl }
 
 pub clashes_come_out : ClashesComeOut
 unfolding gcd ratio whole ◌+ℚ◌ ◌*ℚ◌ neg_ℚ cmp_ℚ value holds happenings initial rate moved happen reached before after met cost
@@ -167,7 +167,7 @@ costs_come_out = record { late = rw done_holds refl; between = rw done_holds ref
 
 pair_watch_over_all : HoldsOverAll pair_watch up_then_down_plan (lasting 0 (n 0) (n 1) 1)
 unfolding gcd ratio whole ◌+ℚ◌ ◌*ℚ◌ neg_ℚ cmp_ℚ value holds happenings initial rate moved happen reached before after
-pair_watch_over_all = over_segments pair_watch up_then_down_plan (action_of pair_watch 0).over_all 0 3 (refl, (refl, (refl, tt))) (omega arith) (omega arith) ends
+pair_watch_over_all = over_segments pair_watch up_then_down_plan (action_of pair_watch 0).over_all 0 3 refl (omega arith) (omega arith) ends
   where
     ends : (k : ℕ) → 0 ≤ k → k < 3 → BothEnds pair_watch up_then_down_plan (action_of pair_watch 0).over_all k
     ends zero a b = (refl, refl)
@@ -176,10 +176,12 @@ pair_watch_over_all = over_segments pair_watch up_then_down_plan (action_of pair
     ends (suc (suc (suc k))) a b = absurd (omega arith)
 
 its_times : ValidTimes pair_watch rules up_then_down up_then_down_times
-unfolding gcd ratio whole ◌+ℚ◌ ◌*ℚ◌ neg_ℚ cmp_ℚ value holds happenings initial rate moved happen reached before after clash met agree link tokens plan_of
+unfolding gcd ratio whole ◌+ℚ◌ ◌*ℚ◌ neg_ℚ cmp_ℚ value holds happenings initial rate moved happen reached before after clash met is_built is_closed agree link tokens plan_of
 its_times = record {
+  ordering = record { built = refl; closed = refl };
   agreeing = refl;
   valid = record {
+    formed = refl;
     in_time = refl;
     durations = refl;
     apart = refl;

@@ -101,7 +101,7 @@ within_moved : (task : TaskParts) (plan : Plan) (l : PlanLine) (from to : ℚ) �
 within_moved task plan l from to e f w t h k = w t (subst (λ x. x <ℚ t) (sym e) h) (subst (λ x. t <ℚ x) (sym f) k)
 
 -- what holds on each segment of a line holds over the line
-segments_over_all : (task : TaskParts) (plan : Plan) (l : PlanLine) → AllByRecursion (IsFormed task) plan → EachMet (line_over_alls task plan l) → Has l.at (happenings task plan) → Has (end_of l) (happenings task plan) → HoldsOverAll task plan l
+segments_over_all : (task : TaskParts) (plan : Plan) (l : PlanLine) → IsFormed task plan → EachMet (line_over_alls task plan l) → Has l.at (happenings task plan) → Has (end_of l) (happenings task plan) → HoldsOverAll task plan l
 segments_over_all task plan l formed m s e t h k = elim (dec_lt s.0 e.0) [ yes b ↦ forwards b t h k | no b ↦ absurd (lt_le_absurd l.at (end_of l) (lt_transℚ l.at t (end_of l) h k) (backwards b)) ]
   where
     backwards : (s.0 < e.0 → ⊥) → end_of l ≤ℚ l.at
@@ -122,7 +122,7 @@ starts_happen task plan = all_map (λ l. AllByRecursion (λ s. Has s.time (happe
     (all_of_flat_map (λ s. Has s.time (happenings task plan)) (line_steps task) plan (all_left (λ s. Has s.time (happenings task plan)) (flat_map (line_steps task) plan) (timed_steps task) (steps-happen task plan)))
 
 -- over the lines of a plan: every instant, or every segment
-pub every_instant-every_segment : (task : TaskParts) (plan : Plan) → AllByRecursion (IsFormed task) plan → AllByRecursion (λ l. EachMet (line_over_alls task plan l)) plan → AllByRecursion (HoldsOverAll task plan) plan
+pub every_instant-every_segment : (task : TaskParts) (plan : Plan) → IsFormed task plan → AllByRecursion (λ l. EachMet (line_over_alls task plan l)) plan → AllByRecursion (HoldsOverAll task plan) plan
 every_instant-every_segment task plan formed m = all_both (λ l. EachMet (line_over_alls task plan l)) (λ l. Has l.at (happenings task plan) × Has (end_of l) (happenings task plan)) (HoldsOverAll task plan) plan
     (λ l a b. segments_over_all task plan l formed a b.0 b.1) m
     (all_both (λ l. Has l.at (happenings task plan)) (λ l. Has (end_of l) (happenings task plan)) (λ l. Has l.at (happenings task plan) × Has (end_of l) (happenings task plan)) plan (λ l a b. (a, b)) (starts_happen task plan)

@@ -1,6 +1,6 @@
 -- A condition holds at every instant strictly between two adjacent happenings exactly where it holds at both ends.
 use Rattle.std.proofs.Common.{◌≡◌, refl, sym, ap, subst, ◌∙◌, ℕ, zero, suc, ◌<◌, Bool, true, false, ◌&&◌, List, [], ◌∷◌, length, map, arith, inl, inr, Option, Some, None}
-use Rattle.std.specs.Prelude.{slice_index_or, ◌⊎◌, ◌↔◌, IsTrue, MatchOption, IsSome, unwrap_or, not}
+use Rattle.std.specs.Prelude.{slice_index_or, ◌⊎◌, ◌↔◌, IsTrue, if◌then◌else◌, is_some, is_none, unwrap_or, not}
 use Rattle.std.specs.List.{AllByRecursion, list_all, filter, flat_map}
 use Rattle.std.specs.declared.cmp.Ordering.{Ordering}
 use Rattle.std.specs.declared.cmp.Ordering.TheVariants.{Less, Equal, Greater}
@@ -19,7 +19,7 @@ use Rattle.task_types.specs.declared.conditions.Condition.{Condition}
 use Rattle.task_types.specs.declared.plans.PlanLine.{PlanLine}
 use Rattle.task_types.specs.Numbers.{◌<?◌, ◌≤?◌, ◌=?◌, total}
 use Rattle.task_types.specs.State.{State, value, literal_holds, comparison_holds, holds}
-use Rattle.task_types.specs.Plan.{Plan, IsFormed, runs_at, action_of, end_of, end_step, line_steps, timed_steps, steps, ascending, in_place, beside, happenings}
+use Rattle.task_types.specs.Plan.{Plan, IsFormed, is_formed, runs_at, action_of, end_of, end_step, line_steps, timed_steps, steps, ascending, in_place, beside, happenings}
 use Rattle.task_types.specs.Course.{runs_between, rates_of, rate, moved, happen, reached, before, after, time_of, steps_at, state_after, state_before, count}
 use Rattle.task_types.specs.Valid.{HoldsWithin}
 use Rattle.task_types.proofs.Comparisons.{lt_in, lt_out, le_in, le_out, eq_le, eq_out, lt_le_absurd}
@@ -85,13 +85,17 @@ pub end_is_at : (l : PlanLine) → l.duration ≡ None → l.at ≡ end_of l
 end_is_at l e = law ℚ_ring (l.at ∷ l.at ∷ []) (λ a b. (a) ≐ (a ⊕ num 0)) refl ∙ ap (λ d. l.at +ℚ unwrap_or d zeroℚ) (sym e)
 
 -- the end of a line is the time of one of its steps
-end_among : (P : ℚ → Type 0) (l : PlanLine) (e : Option ℕ) → MatchOption e (l.duration ≡ None) (λ _. IsSome l.duration) → P l.at → AllByRecursion (λ s. P s.time) (end_step l e) → P (end_of l)
-end_among P l None f p h = subst P (end_is_at l f) p
+end_among : (P : ℚ → Type 0) (l : PlanLine) (e : Option ℕ) → (if is_some e then is_some l.duration else is_none l.duration) ≡ true → P l.at → AllByRecursion (λ s. P s.time) (end_step l e) → P (end_of l)
+end_among P l None f p h = subst P (end_is_at l (none_out l.duration f)) p
+  where
+    none_out : (d : Option ℚ) → is_none d ≡ true → d ≡ None
+    none_out None e = refl
+    none_out (Some d) e = cc
 end_among P l (Some s) f p h = h.0
 
-pub ends_outside : (task : TaskParts) (plan : Plan) (P : ℚ → Type 0) → AllByRecursion (IsFormed task) plan → AllByRecursion (λ s. P s.time) (steps task plan) → AllByRecursion (λ l. P (end_of l)) plan
-ends_outside task plan P f h = all_both (IsFormed task) (λ l. AllByRecursion (λ s. P s.time) (line_steps task l)) (λ l. P (end_of l)) plan
-    (λ l f h. end_among P l (action_of task l.action).end f h.0 h.1) f (all_of_flat_map (λ s. P s.time) (line_steps task) plan (all_left (λ s. P s.time) (flat_map (line_steps task) plan) (timed_steps task) h))
+pub ends_outside : (task : TaskParts) (plan : Plan) (P : ℚ → Type 0) → IsFormed task plan → AllByRecursion (λ s. P s.time) (steps task plan) → AllByRecursion (λ l. P (end_of l)) plan
+ends_outside task plan P f h = all_both (λ l. is_formed task l ≡ true) (λ l. AllByRecursion (λ s. P s.time) (line_steps task l)) (λ l. P (end_of l)) plan
+    (λ l f h. end_among P l (action_of task l.action).end (and_right _ _ f) h.0 h.1) (all_out (is_formed task) plan f) (all_of_flat_map (λ s. P s.time) (line_steps task) plan (all_left (λ s. P s.time) (flat_map (line_steps task) plan) (timed_steps task) h))
 
 runs_same : (from to t : ℚ) (l : PlanLine) → from <ℚ t → t ≤ℚ to → Outside from to (end_of l) → runs_between from t l ≡ runs_between from to l
 runs_same from to t l h k (inl e) = ap (λ b. (l.at ≤? from) && b) (ap not (lt_in (end_of l) t (le_lt_transℚ (end_of l) from t e h)) ∙ sym (ap not (lt_in (end_of l) to (le_lt_transℚ (end_of l) from to e (lt_le_transℚ from t to h k)))))
@@ -187,7 +191,7 @@ held_ends task plan from to s c u e f = (
         (λ t. all_under (λ form. zeroℚ ≤ℚ grown (value form s.fluents) (slope task (filter (runs_between from to) plan) form) from t) (from <ℚ t) (t <ℚ to) c.comparisons (λ h l. (at t h l).1))
 
 -- over a segment without happenings a condition holds at every instant exactly where it holds at both ends
-pub segment : (task : TaskParts) (plan : Plan) (k : ℕ) (c : Condition) → suc k < count task plan → AllByRecursion (IsFormed task) plan
+pub segment : (task : TaskParts) (plan : Plan) (k : ℕ) (c : Condition) → suc k < count task plan → IsFormed task plan
     → HoldsWithin task plan c (time_of task plan k) (time_of task plan (suc k)) ↔ IsTrue (holds c (state_after task plan k)) × IsTrue (holds c (state_before task plan (suc k)))
 unfolding reached
 segment task plan k c n formed = (

@@ -44,7 +44,7 @@ decided_clashes task rules (l ∷ ls) =
     (decided_map (λ s. reason.ClashTimed l.line s.time) (λ s. all_apart task rules (line_steps task l) (s ∷ [])) (timed_steps task))) (decided_clashes task rules ls)
 
 -- a segment's condition is decided by its two ends
-decided_segment : (task : TaskParts) (plan : Plan) (k : ℕ) (c : Condition) → suc k < count task plan → AllByRecursion (IsFormed task) plan → Decided (HoldsWithin task plan c (time_of task plan k) (time_of task plan (suc k)))
+decided_segment : (task : TaskParts) (plan : Plan) (k : ℕ) (c : Condition) → suc k < count task plan → IsFormed task plan → Decided (HoldsWithin task plan c (time_of task plan k) (time_of task plan (suc k)))
 decided_segment task plan k c h formed = go (of_test (holds c (state_after task plan k))) (of_test (holds c (state_before task plan (suc k))))
   where
     go : Decided (IsTrue (holds c (state_after task plan k))) → Decided (IsTrue (holds c (state_before task plan (suc k)))) → Decided (HoldsWithin task plan c (time_of task plan k) (time_of task plan (suc k)))
@@ -69,13 +69,13 @@ under_test false P d = inl (λ e. absurd (elim_false e))
     elim_false : false ≡ true → ⊥
     elim_false e = cc
 
-decided_over_alls : (task : TaskParts) (plan : Plan) (ls : List PlanLine) → AllByRecursion (IsFormed task) plan → EachDecided (over_alls task plan ls)
+decided_over_alls : (task : TaskParts) (plan : Plan) (ls : List PlanLine) → IsFormed task plan → EachDecided (over_alls task plan ls)
 decided_over_alls task plan [] formed = tt
 decided_over_alls task plan (l ∷ ls) formed = decided_append (line_over_alls task plan l) (over_alls task plan ls)
     (decided_each _ (segments (happenings task plan)) (each_segment _ (happenings task plan) (λ k h. under_test _ _ (decided_segment task plan k (action_of task l.action).over_all h formed))))
     (decided_over_alls task plan ls formed)
 
-decided_duties : (task : TaskParts) (rules : Rules) (plan : Plan) → AllByRecursion (IsFormed task) plan → EachDecided (duties task rules plan)
+decided_duties : (task : TaskParts) (rules : Rules) (plan : Plan) → IsFormed task plan → EachDecided (duties task rules plan)
 unfolding duties
 decided_duties task rules plan formed =
     decided_append _ _ (decided_append _ _ (decided_append _ _ (decided_append _ _ (decided_append _ _ (decided_append _ _ (decided_append _ _
@@ -89,12 +89,12 @@ decided_duties task rules plan formed =
     (decided_map (λ c. reason.Constraint c.0) (λ c. met c.1 (trace task plan)) (enumerate_from 1 task.hard))
 
 -- a plan is valid or has a first reason, and never both
-pub valid_or_reason : (task : TaskParts) (rules : Rules) (plan : Plan) → AllByRecursion (IsFormed task) plan → ((r : Reason) × IsFirstReason task rules plan r) ⊎ Valid task rules plan
+pub valid_or_reason : (task : TaskParts) (rules : Rules) (plan : Plan) → IsFormed task plan → ((r : Reason) × IsFirstReason task rules plan r) ⊎ Valid task rules plan
 valid_or_reason task rules plan formed = go (reason_or_met (duties task rules plan) (decided_duties task rules plan formed))
   where
     go : ((r : Reason) × IsFirstReason task rules plan r) ⊎ EachMet (duties task rules plan) → ((r : Reason) × IsFirstReason task rules plan r) ⊎ Valid task rules plan
     go (inl h) = inl h
     go (inr m) = inr ((valid-duties task rules plan formed).1 m)
 
-pub valid-no_reason : (task : TaskParts) (rules : Rules) (plan : Plan) → AllByRecursion (IsFormed task) plan → Valid task rules plan → (r : Reason) → IsFirstReason task rules plan r → ⊥
-valid-no_reason task rules plan formed v r h = met-no_reason (duties task rules plan) ((valid-duties task rules plan formed).0 v) r h
+pub valid-no_reason : (task : TaskParts) (rules : Rules) (plan : Plan) → Valid task rules plan → (r : Reason) → IsFirstReason task rules plan r → ⊥
+valid-no_reason task rules plan v r h = met-no_reason (duties task rules plan) ((valid-duties task rules plan v.formed).0 v) r h

@@ -1,7 +1,6 @@
 -- A condition holds strictly between two happenings where it holds at both ends of each segment between them.
 use Rattle.std.proofs.Common.{◌≡◌, refl, sym, ap, subst, ◌∙◌, ℕ, zero, suc, ◌<◌, ◌≤◌, arith, ⊎_elim, inl, inr}
 use Rattle.std.specs.Prelude.{◌⊎◌, IsTrue}
-use Rattle.std.specs.List.{AllByRecursion}
 use native.Mathlib.Decide.{dec_lt}
 use Rattle.rational.specs.Rational.{ℚ, ◌≤ℚ◌, ◌<ℚ◌}
 use Rattle.rational.proofs.Order.{lt_leℚ, le_or_gt, le_antisymmℚ, lt_irreflℚ}
@@ -42,7 +41,7 @@ pub after-at : (task : TaskParts) (plan : Plan) (k : ℕ) → suc k < count task
 unfolding after
 after-at task plan k n h = ap (λ s. happen task (steps_at task plan (time_of task plan (suc k))) s) (before-at task plan k n h)
 
-pub over_segments : (task : TaskParts) (plan : Plan) (c : Condition) (i j : ℕ) → AllByRecursion (IsFormed task) plan → i < j → j < count task plan
+pub over_segments : (task : TaskParts) (plan : Plan) (c : Condition) (i j : ℕ) → IsFormed task plan → i < j → j < count task plan
     → ((k : ℕ) → i ≤ k → k < j → BothEnds task plan c k) → HoldsWithin task plan c (time_of task plan i) (time_of task plan j)
 over_segments task plan c i j formed h n f t l m = go (locate (time_of task plan) t i j h l (lt_leℚ t (time_of task plan j) m))
   where

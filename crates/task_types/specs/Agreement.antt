@@ -13,7 +13,7 @@ use Rattle.task_types.specs.Numbers.{◌≤?◌, ◌=?◌, is_in}
 use Rattle.task_types.specs.Plan.{Plan, action_of, snap_of}
 use Rattle.task_types.specs.Valid.{Valid}
 use Rattle.task_types.specs.Touch.{is_timed}
-use Rattle.task_types.specs.Order.{Order, link, is_built, is_closed}
+use Rattle.task_types.specs.Order.{Order, link, IsClosedOrdering}
 
 -- A link holds between an earlier and a later step of the list where the later is no earlier in time, or later by epsilon, as the link asks.
 abbrev pub link_holds : Rules → Link → ℚ → ℚ → Bool
@@ -64,8 +64,9 @@ numbered n (l ∷ ls) = record l { line = n } ∷ numbered (n + 1) ls
 unfoldable pub plan_of : TaskParts → Order → List ℚ → Plan
 plan_of task o times = numbered 1 (begun_lines task (zip o.steps times))
 
--- Valid times of an ordering agree with it, and their timed plan is valid.
+-- Valid times of a closed ordering agree with it, and their timed plan is valid.
 pub record ValidTimes (task : TaskParts) (rules : Rules) (o : Order) (times : List ℚ) : Type 0 where
+  pub ordering : IsClosedOrdering task o
   pub agreeing : IsTrue (agree task rules o times)
   pub valid : Valid task rules (plan_of task o times)
 
@@ -81,8 +82,7 @@ SameLines plan other = IsPermutation (map unnumbered plan) (map unnumbered other
 pub record Extends (task : TaskParts) (rules : Rules) (plan : Plan) (list : List ℕ) : Type 0 where
   pub order : Order
   pub times : List ℚ
-  pub built : IsTrue (is_built task order)
-  pub closed : IsTrue (is_closed task order)
+  pub ordering : IsClosedOrdering task order
   pub no_pairs : order.extra ≡ []
   pub agreeing : IsTrue (agree task rules order times)
   pub same : SameLines plan (plan_of task order times)

@@ -16,13 +16,13 @@ use Rattle.task_types.specs.Trace.{Trace, Moment, at, met}
 use Rattle.task_types.specs.Plan.{Plan, Step, IsFormed, steps, happenings}
 use Rattle.task_types.specs.Course.{count, time_of, state_before, state_after, before, after, steps_at, entries_of, effect_of, amount, increased, happen, rate, moved}
 use Rattle.task_types.specs.Clash.{clash}
-use Rattle.task_types.specs.Valid.{Valid, HoldsWithin, IsFirstReason}
+use Rattle.task_types.specs.Valid.{Valid, ArePositive, HoldsWithin, IsFirstReason}
 use Rattle.task_types.specs.declared.orderings.Link.TheVariants.{Free, Weak, Apart}
 use Rattle.task_types.specs.declared.tokens.Touch.{Touch}
 use Rattle.task_types.specs.declared.tokens.Touch.TheVariants.{Look, Mark, Bend}
 use Rattle.task_types.specs.Touch.{is_timed, touches_of}
-use Rattle.task_types.specs.Order.{link}
-use Rattle.task_types.specs.Agreement.{SameLines, are_linked}
+use Rattle.task_types.specs.Order.{Order, link}
+use Rattle.task_types.specs.Agreement.{SameLines, are_linked, plan_of}
 use Rattle.task_types.specs.Cost.{cost, late_value, piece_value}
 use Rattle.task_types.specs.Reckoned.{Reckoning, outcome, sums, amount_reckoned, assigned_value, rate_reckoned, move_of, late_reckoned, piece_reckoned, cost_reckoned}
 use Rattle.task_types.specs.declared.conditions.Amount.{Amount}
@@ -48,13 +48,13 @@ pub record OneListOfHappenings : Type 0 where
 
 -- Between two adjacent happenings a condition holds at every instant exactly where it holds at both ends.
 abbrev pub SegmentsGoByTheirEnds : Type 0
-SegmentsGoByTheirEnds = (task : TaskParts) (plan : Plan) (k : ℕ) (c : Condition) → suc k < count task plan → AllByRecursion (IsFormed task) plan
+SegmentsGoByTheirEnds = (task : TaskParts) (plan : Plan) (k : ℕ) (c : Condition) → suc k < count task plan → IsFormed task plan
     → HoldsWithin task plan c (time_of task plan k) (time_of task plan (suc k)) ↔ IsTrue (holds c (state_after task plan k)) × IsTrue (holds c (state_before task plan (suc k)))
 
--- A plan is valid or has a first reason, never both, and only one.
+-- A formed plan is valid or has a first reason; no plan has both, or two first reasons.
 pub record ValidOrOneReason : Type 0 where
-  pub some : (task : TaskParts) (rules : Rules) (plan : Plan) → AllByRecursion (IsFormed task) plan → Valid task rules plan ⊎ ((r : Reason) × IsFirstReason task rules plan r)
-  pub not_both : (task : TaskParts) (rules : Rules) (plan : Plan) (r : Reason) → AllByRecursion (IsFormed task) plan → Valid task rules plan → ¬ IsFirstReason task rules plan r
+  pub some : (task : TaskParts) (rules : Rules) (plan : Plan) → IsFormed task plan → Valid task rules plan ⊎ ((r : Reason) × IsFirstReason task rules plan r)
+  pub not_both : (task : TaskParts) (rules : Rules) (plan : Plan) (r : Reason) → Valid task rules plan → ¬ IsFirstReason task rules plan r
   pub one : (task : TaskParts) (rules : Rules) (plan : Plan) (r s : Reason) → IsFirstReason task rules plan r → IsFirstReason task rules plan s → r ≡ s
 
 -- Whether two steps clash, and how they are linked, doesn't depend on which is named first.
@@ -69,8 +69,8 @@ AssignsOnce task plan = (t : ℚ) (f : ℕ) → length (flat_map (λ step. entri
 -- The order of a plan's lines, and the numbers that they have in a text, are free: they change no state where no two assignments to one fluent meet, which is so in a valid plan, and then neither validity nor cost.
 pub record LinesInAnyOrder : Type 0 where
   pub states : (task : TaskParts) (plan other : Plan) (t : ℚ) → SameLines plan other → AssignsOnce task plan → (before task plan t ≡ before task other t) × (after task plan t ≡ after task other t)
-  pub assigns_once : (task : TaskParts) (rules : Rules) (plan : Plan) → IsWellMade task → zeroℚ <ℚ rules.epsilon → Valid task rules plan → AssignsOnce task plan
-  pub valid : (task : TaskParts) (rules : Rules) (plan other : Plan) → IsWellMade task → zeroℚ <ℚ rules.epsilon → SameLines plan other → Valid task rules plan → Valid task rules other
+  pub assigns_once : (task : TaskParts) (rules : Rules) (plan : Plan) → IsWellMade task → ArePositive rules → Valid task rules plan → AssignsOnce task plan
+  pub valid : (task : TaskParts) (rules : Rules) (plan other : Plan) → IsWellMade task → ArePositive rules → SameLines plan other → Valid task rules plan → Valid task rules other
   pub costs : (task : TaskParts) (plan other : Plan) → SameLines plan other → AssignsOnce task plan → cost task plan ≡ cost task other
 
 -- ---- trajectory constraints, said a second time by going along the states
@@ -139,6 +139,12 @@ pub record ReckoningsEndAtTheValue : Type 0 where
   pub time_costs : (c : LateCost) (m : ℚ) → IsTrue (not ((m ≤? c.soft) || (c.hard ≤? m))) → ends_at zeroℚ (late_reckoned c (Some m)) ≡ late_value c (Some m)
   pub pieces : (lower : ℚ) (p : Piece) (m : ℚ) → ends_at zeroℚ (piece_reckoned lower p m) ≡ piece_value lower p m
   pub costs : (task : TaskParts) (plan : Plan) → ends_at zeroℚ (cost_reckoned task plan) ≡ cost task plan
+
+-- ---- orderings
+
+-- The timed plan of an ordering and its times is formed, whatever they are.
+abbrev pub TimedPlansAreFormed : Type 0
+TimedPlansAreFormed = (task : TaskParts) (o : Order) (times : List ℚ) → IsWellMade task → IsFormed task (plan_of task o times)
 
 -- ---- links by touches
 

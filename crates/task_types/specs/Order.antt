@@ -1,5 +1,5 @@
 -- Orderings of steps, and the links of steps that touch a common token (COLIN 2012: start and end snap actions in one total order; here less than that).
-use Rattle.std.specs.Prelude.{ℕ, Bool, true, false, not, ◌&&◌, ◌||◌, ◌==◌, nat_lt, nat_le, if◌then◌else◌, List, [], ◌++◌, length, take, slice_index, option_to_list, fold}
+use Rattle.std.specs.Prelude.{ℕ, Bool, true, false, not, ◌&&◌, ◌||◌, ◌==◌, nat_lt, nat_le, if◌then◌else◌, IsTrue, List, [], ◌++◌, length, take, slice_index, option_to_list, fold}
 use Rattle.std.specs.List.{list_any, list_all, filter, count_by}
 use Rattle.task_types.specs.declared.actions.Snap.{Snap}
 use Rattle.task_types.specs.declared.actions.SnapKind.{SnapKind}
@@ -70,9 +70,14 @@ is_built task o = every (length o.steps) (λ k. may_follow task (take k o.steps)
     && nat_le (plan_step_count task o.steps) plan_step_limit
     && list_all (λ p. nat_lt p.0 p.1 && nat_lt p.1 (length o.steps)) o.extra
 
--- An ordering is closed where every start has its end and every timed step is there.
+-- A list of steps is closed where every start has its end and every timed step is there.
 unfoldable pub is_closed : TaskParts → Order → Bool
 is_closed task o = list_all (λ a. false) (running task o.steps) && (timed_count task o.steps == length task.timed)
+
+-- A closed ordering is built, every start of it has its end, and every timed step is there.
+pub record IsClosedOrdering (task : TaskParts) (o : Order) : Type 0 where
+  pub built : IsTrue (is_built task o)
+  pub closed : IsTrue (is_closed task o)
 
 -- The link of steps i and j of an ordering is Apart where an extra pair names them, and else that of their snap actions.
 abbrev pub pair_link : TaskParts → Order → ℕ → ℕ → Link

@@ -1,6 +1,6 @@
 -- Timed plans: their lines, their steps and their happenings (Fox and Long 2003: plans, the induced simple plan, happenings).
-use Rattle.std.specs.Prelude.{ℕ, Bool, ◌&&◌, List, [], ◌∷◌, ◌++◌, map, slice_index_or, Option, Some, None, unwrap_or, ◌≡◌, MatchOption, IsSome}
-use Rattle.std.specs.List.{flat_map}
+use Rattle.std.specs.Prelude.{ℕ, Bool, ◌&&◌, nat_lt, if◌then◌else◌, IsTrue, List, [], ◌∷◌, ◌++◌, map, length, slice_index_or, Option, Some, None, unwrap_or, is_some, is_none}
+use Rattle.std.specs.List.{flat_map, list_all}
 use Rattle.std.specs.declared.cmp.Ordering.{Ordering}
 use Rattle.std.specs.declared.cmp.Ordering.TheVariants.{Less, Equal, Greater}
 use Rattle.rational.specs.Rational.{ℚ, zeroℚ, ◌+ℚ◌, cmp_ℚ}
@@ -29,9 +29,14 @@ snap_of task s = slice_index_or task.snaps s no_snap
 abbrev pub Plan : Type 0
 Plan = List PlanLine
 
--- A line is formed where it has a duration exactly where its action is durative.
-abbrev pub IsFormed : TaskParts → PlanLine → Type 0
-IsFormed task l = MatchOption (action_of task l.action).end (l.duration ≡ None) (λ _. IsSome l.duration)
+-- A line is formed where its action is one of the task, and it has a duration exactly where that action is durative.
+abbrev pub is_formed : TaskParts → PlanLine → Bool
+is_formed task l = nat_lt l.action (length task.actions)
+    && (if is_some (action_of task l.action).end then is_some l.duration else is_none l.duration)
+
+-- A plan is formed where each of its lines is.
+abbrev pub IsFormed : TaskParts → Plan → Type 0
+IsFormed task plan = IsTrue (list_all (is_formed task) plan)
 
 -- A line takes its duration, and no time where it has none.
 abbrev pub duration_of : PlanLine → ℚ

@@ -11,10 +11,15 @@ use Rattle.task_types.specs.declared.plans.Reason.{Reason}
 use Rattle.task_types.specs.declared.plans.Reason.TheVariants as reason
 use Rattle.task_types.specs.Numbers.{◌≤?◌, ◌⇒◌}
 use Rattle.task_types.specs.State.{value, holds}
-use Rattle.task_types.specs.Plan.{Plan, Step, action_of, snap_of, end_of, line_steps, plan_steps, timed_steps, happenings}
+use Rattle.task_types.specs.Plan.{Plan, Step, IsFormed, action_of, snap_of, end_of, line_steps, plan_steps, timed_steps, happenings}
 use Rattle.task_types.specs.Course.{before, after, last_state}
 use Rattle.task_types.specs.Clash.{clash}
 use Rattle.task_types.specs.Trace.{trace, met}
+
+-- Rules are positive where the least distance of clashing steps and the horizon are above 0.
+pub record ArePositive (rules : Rules) : Type 0 where
+  pub epsilon : zeroℚ <ℚ rules.epsilon
+  pub horizon : zeroℚ <ℚ rules.horizon
 
 -- First: a line is in time where its start and its end are from 0 to the horizon.
 abbrev pub is_in_time : Rules → PlanLine → Bool
@@ -72,8 +77,9 @@ HoldsWithin task plan c from to = (t : ℚ) → from <ℚ t → t <ℚ to → Is
 abbrev pub HoldsOverAll : TaskParts → Plan → PlanLine → Type 0
 HoldsOverAll task plan l = HoldsWithin task plan (action_of task l.action).over_all l.at (end_of l)
 
--- A plan is valid where all eight hold; seventh, the goal holds in the last state, and eighth, the trace meets each hard constraint.
+-- A plan is valid where it is formed and all eight hold; seventh, the goal holds in the last state, and eighth, the trace meets each hard constraint.
 pub record Valid (task : TaskParts) (rules : Rules) (plan : Plan) : Type 0 where
+  pub formed : IsFormed task plan
   pub in_time : IsTrue (list_all (is_in_time rules) plan)
   pub durations : IsTrue (list_all (has_fit_duration task rules plan) plan)
   pub apart : IsTrue (are_kept_apart task rules plan)
@@ -113,7 +119,7 @@ abbrev pub over_alls : TaskParts → Plan → List PlanLine → List Duty
 over_alls task plan [] = []
 over_alls task plan (l ∷ ls) = line_over_alls task plan l ++ over_alls task plan ls
 
--- The duties of a plan are the eight conditions, each line by line or place by place, in the order in which reasons count.
+-- The duties of a formed plan are the eight conditions, each line by line or place by place, in the order in which reasons count.
 unfoldable pub duties : TaskParts → Rules → Plan → List Duty
 duties task rules plan = map (λ l. duty (reason.Time l.line) (is_in_time rules l)) plan
     ++ map (λ l. duty (reason.Duration l.line) (has_fit_duration task rules plan l)) plan

@@ -1,7 +1,7 @@
 //! Laws of the definitions: each function does nothing, and its contract is the law.
 
 ghost use Rattle.task_types.specs.Examples.{TasksAreWellMade, CoursesComeOut, ClashesComeOut, CostsComeOut, OrderingsComeOut, TouchesComeOut};
-ghost use Rattle.task_types.specs.Laws.{OneListOfHappenings, SegmentsGoByTheirEnds, ValidOrOneReason, BothWaysRound, LinesInAnyOrder, ConstraintsAlongTheTrace, ReckoningsEndAtTheValue, LinksByTouches, SortingKeepsLinks};
+ghost use Rattle.task_types.specs.Laws.{OneListOfHappenings, SegmentsGoByTheirEnds, ValidOrOneReason, BothWaysRound, LinesInAnyOrder, ConstraintsAlongTheTrace, ReckoningsEndAtTheValue, LinksByTouches, SortingKeepsLinks, TimedPlansAreFormed};
 
 /// The happenings of a plan are the one ascending list of the times of its steps.
 pub fn one_list_of_happenings()
@@ -13,7 +13,7 @@ pub fn segments_go_by_their_ends()
     ensures { SegmentsGoByTheirEnds }
 {}
 
-/// A plan whose lines have durations exactly where their actions are durative is valid or has a first reason, never both, and only one.
+/// A formed plan is valid or has a first reason, never both, and only one.
 pub fn valid_or_one_reason()
     ensures { ValidOrOneReason }
 {}
@@ -23,7 +23,7 @@ pub fn both_ways_round()
     ensures { BothWaysRound }
 {}
 
-/// The order of a plan's lines and their numbers are free, where no two assignments to one fluent meet, as in each valid plan of a well made task under an epsilon above 0.
+/// The order of a plan's lines and their numbers are free, where no two assignments to one fluent meet, as in each valid plan of a well made task.
 pub fn lines_in_any_order()
     ensures { LinesInAnyOrder }
 {}
@@ -46,6 +46,11 @@ pub fn examples_come_out()
     ensures costs { CostsComeOut }
     ensures orderings { OrderingsComeOut }
     ensures touches { TouchesComeOut }
+{}
+
+/// The timed plan of an ordering and its times is formed.
+pub fn timed_plans_are_formed()
+    ensures { TimedPlansAreFormed }
 {}
 
 /// The link of two snap actions can be read off their touches.

@@ -7,6 +7,6 @@ use Rattle.task_types.proofs.laws.valid_or_one_reason.Goals as goal
 pub returns : goal.returns
 returns c = record {
   some = λ task rules plan formed. ⊎_elim (λ r. inr r) (λ v. inl v) (valid_or_reason task rules plan formed);
-  not_both = λ task rules plan r formed v. valid-no_reason task rules plan formed v r;
+  not_both = λ task rules plan r v. valid-no_reason task rules plan v r;
   one = λ task rules plan r s. first_unmet_unique (duties task rules plan) r s;
 }
