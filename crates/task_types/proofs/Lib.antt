@@ -11,6 +11,9 @@ pub mod Formed
 pub mod Lines
 pub mod Segment
 pub mod Whole
+pub mod ByNumber
+pub mod Pairs
+pub mod SetApart
 pub mod Links
 pub mod Reasons
 pub mod Traces

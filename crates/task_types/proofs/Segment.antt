@@ -155,7 +155,7 @@ moved_out task plan lines from t s c e h = (
 
 -- ---- the segment
 
-adjacent_ascend : (ts : List ℚ) (k : ℕ) → Ascends ts → suc k < length ts → slice_index_or ts k zeroℚ <ℚ slice_index_or ts (suc k) zeroℚ
+pub adjacent_ascend : (ts : List ℚ) (k : ℕ) → Ascends ts → suc k < length ts → slice_index_or ts k zeroℚ <ℚ slice_index_or ts (suc k) zeroℚ
 adjacent_ascend [] k a h = absurd (omega arith)
 adjacent_ascend (u ∷ us) zero a h = below_later u zero us a.0 (omega arith)
 adjacent_ascend (u ∷ us) (suc k) a h = adjacent_ascend us k a.1 (omega arith)

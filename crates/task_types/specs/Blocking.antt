@@ -54,7 +54,7 @@ step_tests task steps k =
 abbrev pub list_trace : TaskParts → List ℕ → Trace
 list_trace task steps = map (λ k. record { facts = facts_after task (take k steps); time = zeroℚ }) (numbers (length steps + 1))
 
--- A constraint may be met where the states of the list meet it; of a `within`, where its formula holds in a state after a step, or holds at first and its moment isn't below 0.
+-- A constraint may be met where the states of the list meet it; a `within`, where its formula holds in some state of the list, and, if that is so at first, its moment isn't below 0.
 abbrev pub may_be_met : TrailKind → Trail → Trace → Bool
 may_be_met Within c xs = some (length xs) (λ k. at xs k (λ m. tree_holds c.first m.facts)) && (at xs 0 (λ m. tree_holds c.first m.facts) ⇒ (zeroℚ ≤? c.moment))
 may_be_met kind c xs = met c xs

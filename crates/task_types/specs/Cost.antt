@@ -35,10 +35,14 @@ abbrev pub last_to : ℚ → List Piece → ℚ
 last_to other [] = other
 last_to other (p ∷ ps) = last_to p.to ps
 
--- A time cost in pieces has the value of the piece in which the first moment lies, and the last `to` past them all and where its formula never holds.
+-- the greater of two numbers
+abbrev pub greater : ℚ → ℚ → ℚ
+greater q r = if q ≤? r then r else q
+
+-- A time cost in pieces has the value of the piece in which the first moment lies, the first `from` at 0 and before, and the last `to` past them all and where its formula never holds.
 abbrev pub pieces_value : List Piece → Option ℚ → ℚ
 pieces_value ps None = last_to zeroℚ ps
-pieces_value ps (Some m) = piece_at zeroℚ zeroℚ ps m
+pieces_value ps (Some m) = piece_at zeroℚ zeroℚ ps (greater zeroℚ m)
 
 -- A goal preference is met where its formula and its comparisons hold in the last state.
 abbrev pub goal_met : FactTree → List LinearForm → State → Bool
@@ -52,9 +56,6 @@ soft_cost (Late formula c weight) xs last = weight *ℚ late_value c (first_mome
 soft_cost (Pieces formula ps weight) xs last = weight *ℚ pieces_value ps (first_moment formula xs)
 
 -- the greatest of a list; 0 where it is empty
-abbrev pub greater : ℚ → ℚ → ℚ
-greater q r = if q ≤? r then r else q
-
 abbrev pub greatest : List ℚ → ℚ
 greatest [] = zeroℚ
 greatest (x ∷ []) = x

@@ -1,6 +1,7 @@
 -- What the definitions are to satisfy, besides what they say: laws that show them to be the ones that are meant.
-use Rattle.std.specs.Prelude.{ℕ, suc, ◌<◌, ◌≤◌, ◌≡◌, ◌⊎◌, ◌↔◌, Bool, true, false, not, ◌&&◌, ◌||◌, ◌==◌, if◌then◌else◌, IsTrue, List, [], ◌∷◌, map, length, Contains, Some, cond}
+use Rattle.std.specs.Prelude.{ℕ, suc, ◌<◌, ◌≤◌, ◌≡◌, ◌⊎◌, ◌↔◌, Bool, true, false, not, ◌&&◌, ◌||◌, ◌==◌, if◌then◌else◌, IsTrue, List, [], ◌∷◌, map, length, slice_index, slice_get, Contains, Some, cond, option_and_then}
 use Rattle.std.specs.List.{AllByRecursion, list_all, list_any, flat_map}
+use Rattle.std.specs.Option.{option_map}
 use Rattle.rational.specs.Rational.{ℚ, zeroℚ, ◌≤ℚ◌, ◌<ℚ◌}
 use Rattle.task_types.specs.declared.actions.Snap.{Snap}
 use Rattle.task_types.specs.declared.conditions.Condition.{Condition}
@@ -8,12 +9,13 @@ use Rattle.task_types.specs.declared.parts.Rules.{Rules}
 use Rattle.task_types.specs.declared.parts.TaskParts.{TaskParts}
 use Rattle.task_types.specs.declared.plans.Reason.{Reason}
 use Rattle.task_types.specs.declared.constraints.Trail.{Trail}
+use Rattle.task_types.specs.declared.formulas.FactTree.{FactTree}
 use Rattle.task_types.specs.declared.constraints.TrailKind.{TrailKind}
 use Rattle.task_types.specs.declared.constraints.TrailKind.TheVariants.{Always, Sometime, Within, AtMostOnce, SometimeAfter, SometimeBefore, AtEnd}
 use Rattle.task_types.specs.Numbers.{◌≤?◌, ◌⇒◌}
 use Rattle.task_types.specs.State.{State, holds, tree_holds}
-use Rattle.task_types.specs.Trace.{Trace, Moment, at, met}
-use Rattle.task_types.specs.Plan.{Plan, Step, IsFormed, steps, happenings}
+use Rattle.task_types.specs.Trace.{Trace, Moment, at, met, first_state, first_moment}
+use Rattle.task_types.specs.Plan.{Plan, Step, IsFormed, snap_of, steps, happenings}
 use Rattle.task_types.specs.Course.{count, time_of, state_before, state_after, before, after, steps_at, entries_of, effect_of, amount, increased, happen, rate, moved}
 use Rattle.task_types.specs.Clash.{clash}
 use Rattle.task_types.specs.Valid.{Valid, ArePositive, HoldsWithin, IsFirstReason}
@@ -21,8 +23,8 @@ use Rattle.task_types.specs.declared.orderings.Link.TheVariants.{Free, Weak, Apa
 use Rattle.task_types.specs.declared.tokens.Touch.{Touch}
 use Rattle.task_types.specs.declared.tokens.Touch.TheVariants.{Look, Mark, Bend}
 use Rattle.task_types.specs.Touch.{is_timed, touches_of}
-use Rattle.task_types.specs.Order.{Order, link}
-use Rattle.task_types.specs.Agreement.{SameLines, are_linked, plan_of}
+use Rattle.task_types.specs.Order.{Order, link, is_built, pair_link}
+use Rattle.task_types.specs.Agreement.{SameLines, are_linked, agree, link_holds, is_placed, time_at, plan_of}
 use Rattle.task_types.specs.Cost.{cost, late_value, piece_value}
 use Rattle.task_types.specs.Reckoned.{Reckoning, outcome, sums, amount_reckoned, assigned_value, rate_reckoned, move_of, late_reckoned, piece_reckoned, cost_reckoned}
 use Rattle.task_types.specs.declared.conditions.Amount.{Amount}
@@ -50,6 +52,11 @@ pub record OneListOfHappenings : Type 0 where
 abbrev pub SegmentsGoByTheirEnds : Type 0
 SegmentsGoByTheirEnds = (task : TaskParts) (plan : Plan) (k : ℕ) (c : Condition) → suc k < count task plan → IsFormed task plan
     → HoldsWithin task plan c (time_of task plan k) (time_of task plan (suc k)) ↔ IsTrue (holds c (state_after task plan k)) × IsTrue (holds c (state_before task plan (suc k)))
+
+-- At a happening the states before and after are those that have its number.
+pub record StatesGoByNumber : Type 0 where
+  pub before : (task : TaskParts) (plan : Plan) (k : ℕ) → k < count task plan → before task plan (time_of task plan k) ≡ state_before task plan k
+  pub after : (task : TaskParts) (plan : Plan) (k : ℕ) → k < count task plan → after task plan (time_of task plan k) ≡ state_after task plan k
 
 -- A formed plan is valid or has a first reason; no plan has both, or two first reasons.
 pub record ValidOrOneReason : Type 0 where
@@ -123,6 +130,11 @@ pub record ConstraintsAlongTheTrace : Type 0 where
   pub along : (c : Trail) (xs : Trace) → met c xs ≡ kept_along c.kind (λ m. tree_holds c.first m.facts) (λ m. tree_holds c.second m.facts) (λ m. m.time ≤? c.moment) xs
   pub no_gap : (c : Trail) (xs : Trace) → c.kind ≡ AtMostOnce → IsTrue (met c xs) ↔ NoGap xs (λ m. tree_holds c.first m.facts)
 
+-- The first moment of a formula is the time of its first state, where there is one.
+abbrev pub FirstStatesHaveTheFirstMoments : Type 0
+FirstStatesHaveTheFirstMoments = (formula : FactTree) (xs : Trace)
+    → first_moment formula xs ≡ option_and_then (λ k. option_map (λ m. m.time) (slice_get xs k)) (first_state formula xs)
+
 -- ---- what is reckoned is what is meant
 
 -- what the last of some reckonings gives; the number given where there is none
@@ -141,6 +153,22 @@ pub record ReckoningsEndAtTheValue : Type 0 where
   pub costs : (task : TaskParts) (plan : Plan) → ends_at zeroℚ (cost_reckoned task plan) ≡ cost task plan
 
 -- ---- orderings
+
+-- Times agree pair by pair with an ordering where they are as many as its steps, the link of each step with each later one holds, and each step has its place in time.
+pub record AgreeInPairs (task : TaskParts) (rules : Rules) (o : Order) (times : List ℚ) : Type 0 where
+  pub lengths : length times ≡ length o.steps
+  pub links : (i j : ℕ) → i < j → j < length o.steps → IsTrue (link_holds rules (pair_link task o i j) (time_at times i) (time_at times j))
+  pub places : (k : ℕ) → k < length o.steps → IsTrue (is_placed task rules (slice_index o.steps k) (time_at times k))
+
+-- Times agree with a built ordering exactly where they do so pair by pair.
+abbrev pub AgreementGoesByPairs : Type 0
+AgreementGoesByPairs = (task : TaskParts) (rules : Rules) (o : Order) (times : List ℚ) → ArePositive rules → IsTrue (is_built task o)
+    → IsTrue (agree task rules o times) ↔ AgreeInPairs task rules o times
+
+-- Snap actions that clash, and aren't both timed, are set apart; so times that agree keep them at the distance that validity asks.
+abbrev pub ClashesAreSetApart : Type 0
+ClashesAreSetApart = (task : TaskParts) (i j : ℕ) → IsWellMade task → IsTrue (clash task (snap_of task i) (snap_of task j))
+    → IsTrue (not (is_timed (snap_of task i).kind && is_timed (snap_of task j).kind)) → link task (snap_of task i) (snap_of task j) ≡ Apart
 
 -- The timed plan of an ordering and its times is formed, whatever they are.
 abbrev pub TimedPlansAreFormed : Type 0

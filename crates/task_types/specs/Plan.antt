@@ -69,6 +69,10 @@ line_steps task l = record { time = l.at; snap = (action_of task l.action).start
 abbrev pub plan_steps : TaskParts → Plan → List Step
 plan_steps task plan = flat_map (line_steps task) plan
 
+-- how many plan steps a plan has
+abbrev pub step_count : TaskParts → Plan → ℕ
+step_count task plan = length (plan_steps task plan)
+
 -- The timed steps are the task's timed initial literals, one step a moment (Edelkamp and Hoffmann 2004).
 abbrev pub timed_steps : TaskParts → List Step
 timed_steps task = map (λ t. record { time = t.0; snap = t.1; duration = zeroℚ }) task.timed

@@ -1,5 +1,5 @@
 -- The sums and products that are reckoned in fractions of limited parts, by the happening to which they belong, and the first place where one is undefined. Nothing that says what a plan means cites this file.
-use Rattle.std.specs.Prelude.{ℕ, zero, suc, ◌+◌, ◌≡◌, ◌⊎◌, cond, ◌||◌, nat_lt, if◌then◌else◌, List, [], ◌∷◌, ◌++◌, map, length, Option, Some, None}
+use Rattle.std.specs.Prelude.{ℕ, zero, suc, ◌+◌, ◌≡◌, ◌⊎◌, cond, ◌||◌, nat_lt, if◌then◌else◌, List, [], ◌∷◌, ◌++◌, map, length, Option, Some, None, option_to_list}
 use Rattle.std.specs.List.{AllByRecursion, flat_map, filter}
 use Rattle.rational.specs.Rational.{ℚ, zeroℚ, ◌+ℚ◌, ◌*ℚ◌, ◌-ℚ◌, neg_ℚ, inverse}
 use Rattle.exact_lin.specs.Reckoning.{wide_limit, CanAdd, CanMultiply}
@@ -37,6 +37,14 @@ abbrev pub outcome : Reckoning → ℚ
 outcome (Sum q r) = q +ℚ r
 outcome (Product q r) = q *ℚ r
 outcome (Value form fluents) = value form fluents
+
+-- The end of a line is reckoned as its start plus its duration, where it has one.
+abbrev pub end_reckoned : PlanLine → List Reckoning
+end_reckoned l = map (λ d. Sum l.at d) (option_to_list l.duration)
+
+-- The lines of a plan go by their numbers in the text.
+abbrev pub lines_reckoned : Plan → List (ℕ × List Reckoning)
+lines_reckoned plan = map (λ l. (l.line, end_reckoned l)) plan
 
 -- Numbers are added one by one.
 abbrev pub sums : ℚ → List ℚ → List Reckoning

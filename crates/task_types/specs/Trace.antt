@@ -1,5 +1,5 @@
 -- The trace of a plan, and what trajectory constraints ask of it (Gerevini and Long 2005: the semantics of the modal operators over a trajectory of states).
-use Rattle.std.specs.Prelude.{ℕ, ◌-◌, Bool, false, ◌&&◌, nat_le, List, ◌∷◌, map, length, slice_get, Option, Some, None}
+use Rattle.std.specs.Prelude.{ℕ, ◌-◌, Bool, false, ◌&&◌, nat_le, List, ◌∷◌, map, length, slice_get, position, Option, Some, None}
 use Rattle.std.specs.List.{find}
 use Rattle.std.specs.Option.{option_map}
 use Rattle.rational.specs.Rational.{ℚ, zeroℚ}
@@ -51,6 +51,10 @@ kept AtEnd n a b soon = a (n - 1)
 -- A trace meets a constraint where its states are as the constraint asks.
 unfoldable pub met : Trail → Trace → Bool
 met c xs = kept c.kind (length xs) (λ k. at xs k (λ m. tree_holds c.first m.facts)) (λ k. at xs k (λ m. tree_holds c.second m.facts)) (λ k. at xs k (λ m. m.time ≤? c.moment))
+
+-- The first state of a formula is the number of the first state of the trace in which it holds; the initial state has number 0.
+unfoldable pub first_state : FactTree → Trace → Option ℕ
+first_state formula xs = position (λ m. tree_holds formula m.facts) xs
 
 -- The first moment of a formula is the time of the first state of the trace in which it holds.
 unfoldable pub first_moment : FactTree → Trace → Option ℚ

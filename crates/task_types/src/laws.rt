@@ -1,11 +1,16 @@
 //! Laws of the definitions: each function does nothing, and its contract is the law.
 
 ghost use Rattle.task_types.specs.Examples.{TasksAreWellMade, CoursesComeOut, ClashesComeOut, CostsComeOut, OrderingsComeOut, TouchesComeOut};
-ghost use Rattle.task_types.specs.Laws.{OneListOfHappenings, SegmentsGoByTheirEnds, ValidOrOneReason, BothWaysRound, LinesInAnyOrder, ConstraintsAlongTheTrace, ReckoningsEndAtTheValue, LinksByTouches, SortingKeepsLinks, TimedPlansAreFormed};
+ghost use Rattle.task_types.specs.Laws.{OneListOfHappenings, SegmentsGoByTheirEnds, ValidOrOneReason, BothWaysRound, LinesInAnyOrder, ConstraintsAlongTheTrace, ReckoningsEndAtTheValue, LinksByTouches, SortingKeepsLinks, TimedPlansAreFormed, StatesGoByNumber, AgreementGoesByPairs, ClashesAreSetApart, FirstStatesHaveTheFirstMoments};
 
 /// The happenings of a plan are the one ascending list of the times of its steps.
 pub fn one_list_of_happenings()
     ensures { OneListOfHappenings }
+{}
+
+/// At a happening the states by time are the states by number.
+pub fn states_go_by_number()
+    ensures { StatesGoByNumber }
 {}
 
 /// Between two adjacent happenings a condition holds at every instant exactly where it holds at both ends: fluents change there at constant rates (Fox and Long 2003).
@@ -33,6 +38,11 @@ pub fn constraints_along_the_trace()
     ensures { ConstraintsAlongTheTrace }
 {}
 
+/// The first moment of a formula is the time of the first state in which it holds.
+pub fn first_states_have_the_first_moments()
+    ensures { FirstStatesHaveTheFirstMoments }
+{}
+
 /// What is reckoned step by step ends at the exact value that is meant, so a reckoning that is defined throughout has that value.
 pub fn reckonings_end_at_the_value()
     ensures { ReckoningsEndAtTheValue }
@@ -46,6 +56,16 @@ pub fn examples_come_out()
     ensures costs { CostsComeOut }
     ensures orderings { OrderingsComeOut }
     ensures touches { TouchesComeOut }
+{}
+
+/// Times agree with an ordering exactly where its pair links hold, step by later step, and each step has its place in time.
+pub fn agreement_goes_by_pairs()
+    ensures { AgreementGoesByPairs }
+{}
+
+/// Two steps that clash are set apart in every ordering.
+pub fn clashes_are_set_apart()
+    ensures { ClashesAreSetApart }
 {}
 
 /// The timed plan of an ordering and its times is formed.
