@@ -3,7 +3,7 @@ use Rattle.std.proofs.Common.{◌≡◌, refl, sym, ap, subst, ◌∙◌, ℕ, z
 use Rattle.std.specs.Prelude.{pos, negsuc, ◌↔◌, IsTrue}
 use Rattle.rational.specs.Gcd.{gcd}
 use Rattle.rational.specs.Rational.{ℚ, zeroℚ, ratio, whole, ◌+ℚ◌, ◌*ℚ◌, neg_ℚ, cmp_ℚ, inverse, reciprocal, ◌<ℚ◌, ◌≤ℚ◌}
-use Rattle.rational.proofs.Order.{lt_leℚ, ℚ_ordered}
+use Rattle.rational.proofs.Order.{lt_le, ℚ_ordered}
 use Rattle.rational.proofs.Ring.{◌⊕◌, ◌⊗◌, minus, num, ◌≐◌, ◌≼◌}
 use Rattle.rational.proofs.Solve.{linear as linearly, ◌⊢◌}
 use Rattle.task_types.specs.declared.parts.TaskParts.{TaskParts}
@@ -82,9 +82,9 @@ room = record { constant = n 10; terms = (0, ratio (negsuc 0) 1) ∷ [] }
 
 room_at : (t : ℚ) → n 0 <ℚ t → t <ℚ n 5 → value room (before (tank (n 1)) fill t).fluents ≡ whole (pos 9) +ℚ neg_ℚ (whole (pos 2)) *ℚ (t +ℚ neg_ℚ (whole (pos 0)))
 unfolding gcd ratio whole ◌+ℚ◌ ◌*ℚ◌ neg_ℚ cmp_ℚ value happenings initial rate moved happen reached before after
-room_at t h k = ap (λ (s : State). value room s.fluents) (before-between (tank (n 1)) fill 0 t (omega arith) h (λ _. lt_leℚ t (n 5) k))
+room_at t h k = ap (λ (s : State). value room s.fluents) (before-between (tank (n 1)) fill 0 t (omega arith) h (λ _. lt_le t (n 5) k))
     ∙ value-moved (tank (n 1)) fill (n 0) t (state_after (tank (n 1)) fill 0) room
-    ∙ ap (λ b. grown (value room (state_after (tank (n 1)) fill 0).fluents) (slope (tank (n 1)) (cond b (lasting 0 (n 0) (n 5) 1 ∷ []) []) room) (n 0) t) (le_in t (n 5) (lt_leℚ t (n 5) k))
+    ∙ ap (λ b. grown (value room (state_after (tank (n 1)) fill 0).fluents) (slope (tank (n 1)) (cond b (lasting 0 (n 0) (n 5) 1 ∷ []) []) room) (n 0) t) (le_in t (n 5) (lt_le t (n 5) k))
 
 -- the room is at least 0 exactly up to 9/2
 room_until : (t : ℚ) → (zeroℚ ≤ℚ (whole (pos 9) +ℚ neg_ℚ (whole (pos 2)) *ℚ (t +ℚ neg_ℚ (whole (pos 0))))) ↔ (t ≤ℚ ratio (pos 9) 2)

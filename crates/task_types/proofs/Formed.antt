@@ -1,11 +1,12 @@
 -- The timed plan of an ordering is formed, since each snap action of a well made task is that of an action that has it.
 use Rattle.std.proofs.Common.{◌≡◌, refl, sym, ap, subst, ℕ, zero, suc, ◌+◌, ◌<◌, ◌≤◌, true, false, ◌&&◌, List, [], ◌∷◌, ◌++◌, map, length, arith, Option, Some, None}
-use Rattle.std.specs.Prelude.{slice_index_or, if◌then◌else◌, nat_lt, is_some, is_none, option_to_list}
+use Rattle.std.specs.Prelude.{slice_index_or, if◌then◌else◌, is_some, is_none, option_to_list}
 use Rattle.std.specs.List.{flat_map, zip}
-use Rattle.std.proofs.lemmas.Bool.Decides.{nat_tests}
 use Rattle.std.proofs.lemmas.List.Sums.{sum_by-cons}
 use native.Mathlib.Decide.{dec_lt}
 use Rattle.rational.specs.Rational.{ℚ}
+use Rattle.basics.proofs.Bools.{and_left, and_right, and_in}
+use Rattle.basics.proofs.Naturals.{same_out, lt_in}
 use Rattle.task_types.specs.declared.actions.Action.{Action}
 use Rattle.task_types.specs.declared.actions.Snap.{Snap}
 use Rattle.task_types.specs.declared.actions.SnapKind.{SnapKind}
@@ -16,8 +17,7 @@ use Rattle.task_types.specs.Agreement.{begun, begun_lines, numbered, plan_of}
 use Rattle.task_types.specs.Touch.{is_timed}
 use Rattle.task_types.specs.Order.{Order}
 use Rattle.task_types.specs.WellMade.{IsWellMade, are_numbered, are_timed, has_snaps, is_snap_of, is_number, same_kind, snap_count, snap_total}
-use Rattle.task_types.proofs.Everyone.{and_left, and_right, and_in}
-use Rattle.task_types.proofs.Assigning.{at_read, same_out}
+use Rattle.task_types.proofs.Assigning.{at_read}
 
 -- a snap action is timed, or its action is one of the task that is durative where the snap action is no instantaneous one
 pub data IsOwned (task : TaskParts) (s : Snap) : Type 0 where
@@ -130,9 +130,6 @@ snap-owned task w s = elim (dec_lt s (snap_total task.actions)) [
     all_snaps : length task.snaps ≡ snap_total task.actions + length task.timed
     all_snaps = same_out _ _ (and_left _ _ w.numbered)
 
-below : (a n : ℕ) → a < n → nat_lt a n ≡ true
-below a n h = grind (arith, nat_tests)
-
 -- the line that a step begins is formed
 begun_formed : (task : TaskParts) (s : Snap) (t : ℚ) (later : List (ℕ × ℚ)) → IsOwned task s → IsFormed task (flat_map (λ a. begun task s.kind a t later) (option_to_list s.action))
 begun_formed task s t later (timed e) = rw e (none (option_to_list s.action))
@@ -140,9 +137,9 @@ begun_formed task s t later (timed e) = rw e (none (option_to_list s.action))
     none : (xs : List ℕ) → IsFormed task (flat_map (λ a. []) xs)
     none [] = refl
     none (x ∷ xs) = none xs
-begun_formed task s t later (started a k e l d) = rw (k, e) (and_in _ _ (and_in _ _ (below a (length task.actions) l) (rw d refl)) refl)
+begun_formed task s t later (started a k e l d) = rw (k, e) (and_in _ _ (and_in _ _ (lt_in a (length task.actions) l) (rw d refl)) refl)
 begun_formed task s t later (ended a k e l d) = rw (k, e) refl
-begun_formed task s t later (at_once a k e l d) = rw (k, e) (and_in _ _ (and_in _ _ (below a (length task.actions) l) (without (action_of task a).end d)) refl)
+begun_formed task s t later (at_once a k e l d) = rw (k, e) (and_in _ _ (and_in _ _ (lt_in a (length task.actions) l) (without (action_of task a).end d)) refl)
   where
     without : (o : Option ℕ) → is_none o ≡ true → (if is_some o then false else true) ≡ true
     without None e = refl

@@ -2,11 +2,12 @@
 use Rattle.std.proofs.Common.{◌≡◌, refl, ap, subst, ℕ, zero, suc, ◌<◌, Bool, true, false, ◌&&◌, ◌||◌, ◌==◌, List, [], ◌∷◌, length, arith}
 use Rattle.std.specs.Prelude.{◌↔◌, IsTrue, slice_index, slice_index_or, if◌then◌else◌, nat_lt}
 use Rattle.std.specs.List.{list_any, list_all, zip}
-use Rattle.std.proofs.lemmas.Bool.Decides.{nat_tests}
 use Rattle.rational.specs.Rational.{ℚ, zeroℚ, ◌+ℚ◌, ◌≤ℚ◌}
-use Rattle.rational.proofs.Order.{ℚ_ordered, lt_leℚ}
+use Rattle.rational.proofs.Order.{ℚ_ordered, lt_le}
 use Rattle.rational.proofs.Ring.{◌⊕◌, num, ◌≼◌}
 use Rattle.rational.proofs.Solve.{linear, ◌⊢◌}
+use Rattle.basics.proofs.Bools.{and_left, and_right, and_in, or_right}
+use Rattle.basics.proofs.Naturals.{same_itself, same_out, lt_out, same_in}
 use Rattle.task_types.specs.declared.orderings.Link.{Link}
 use Rattle.task_types.specs.declared.orderings.Link.TheVariants.{Free, Weak, Apart}
 use Rattle.task_types.specs.declared.parts.Rules.{Rules}
@@ -17,8 +18,6 @@ use Rattle.task_types.specs.Order.{Order, link, is_built}
 use Rattle.task_types.specs.Agreement.{link_holds, is_placed, time_at, are_linked, agree}
 use Rattle.task_types.specs.Laws.{AgreeInPairs}
 use Rattle.task_types.proofs.Comparisons.{le_in, le_out}
-use Rattle.task_types.proofs.Everyone.{and_left, and_right, and_in}
-use Rattle.task_types.proofs.Assigning.{same_in, same_out}
 
 -- ---- places of a zipped list
 
@@ -84,15 +83,8 @@ extra_out i j q (e ∷ es) h k = go ((e.0 == i) && (e.1 == j)) refl h (λ l. ext
 -- an extra pair is found among the pairs
 extra_in : (es : List (ℕ × ℕ)) (k : ℕ) → k < length es → list_any (λ p. (p.0 == (slice_index_or es k (0, 0)).0) && (p.1 == (slice_index_or es k (0, 0)).1)) es ≡ true
 extra_in [] k h = absurd (omega arith)
-extra_in (e ∷ es) zero h = rw (same_in e.0, same_in e.1) refl
+extra_in (e ∷ es) zero h = rw (same_itself e.0, same_itself e.1) refl
 extra_in (e ∷ es) (suc k) h = or_right _ _ (extra_in es k (omega arith))
-  where
-    or_right : (a b : Bool) → b ≡ true → (a || b) ≡ true
-    or_right true b e = refl
-    or_right false b e = e
-
-less_out : (a b : ℕ) → nat_lt a b ≡ true → a < b
-less_out a b h = grind (arith, nat_tests)
 
 module _ (task : TaskParts) (rules : Rules) (o : Order) (times : List ℚ) (p : ArePositive rules) (built : is_built task o ≡ true) where
   in_range : list_all (λ p. nat_lt p.0 p.1 && nat_lt p.1 (length o.steps)) o.extra ≡ true
@@ -134,15 +126,12 @@ module _ (task : TaskParts) (rules : Rules) (o : Order) (times : List ℚ) (p : 
 
   back : AgreeInPairs task rules o times → agree task rules o times ≡ true
   unfolding agree
-  back a = and_in _ _ (and_in _ _ (and_in _ _ (same_at (length times) (length o.steps) a.lengths) (linked_in task rules (zip o.steps times) links)) (at-all _ (0, 0) o.extra extras)) (at-all _ (0, zeroℚ) (zip o.steps times) places)
+  back a = and_in _ _ (and_in _ _ (and_in _ _ (same_in (length times) (length o.steps) a.lengths) (linked_in task rules (zip o.steps times) links)) (at-all _ (0, 0) o.extra extras)) (at-all _ (0, zeroℚ) (zip o.steps times) places)
     where
-      same_at : (m n : ℕ) → m ≡ n → (m == n) ≡ true
-      same_at m n e = subst (λ k. (m == k) ≡ true) e (same_in m)
-
       kept : (i j : ℕ) → i < j → j < length o.steps → (b : Bool)
           → link_holds rules (if b then Apart else link task (snap_of task (slice_index o.steps i)) (snap_of task (slice_index o.steps j))) (time_at times i) (time_at times j) ≡ true
           → link_holds rules (link task (snap_of task (slice_index o.steps i)) (snap_of task (slice_index o.steps j))) (time_at times i) (time_at times j) ≡ true
-      kept i j l m true h = apart_keeps rules (lt_leℚ zeroℚ rules.epsilon p.epsilon) (link task (snap_of task (slice_index o.steps i)) (snap_of task (slice_index o.steps j))) (time_at times i) (time_at times j) h
+      kept i j l m true h = apart_keeps rules (lt_le zeroℚ rules.epsilon p.epsilon) (link task (snap_of task (slice_index o.steps i)) (snap_of task (slice_index o.steps j))) (time_at times i) (time_at times j) h
       kept i j l m false h = h
 
       links : (i j : ℕ) → i < j → j < length (zip o.steps times)
@@ -157,8 +146,8 @@ module _ (task : TaskParts) (rules : Rules) (o : Order) (times : List ℚ) (p : 
           let r = all-at (λ p. nat_lt p.0 p.1 && nat_lt p.1 (length o.steps)) (0, 0) o.extra k in_range l in
           subst (λ b. link_holds rules (if b then Apart else link task (snap_of task (slice_index o.steps (slice_index_or o.extra k (0, 0)).0)) (snap_of task (slice_index o.steps (slice_index_or o.extra k (0, 0)).1))) (time_at times (slice_index_or o.extra k (0, 0)).0) (time_at times (slice_index_or o.extra k (0, 0)).1) ≡ true)
           (extra_in o.extra k l) (a.links (slice_index_or o.extra k (0, 0)).0 (slice_index_or o.extra k (0, 0)).1
-          (less_out (slice_index_or o.extra k (0, 0)).0 (slice_index_or o.extra k (0, 0)).1 (and_left (nat_lt (slice_index_or o.extra k (0, 0)).0 (slice_index_or o.extra k (0, 0)).1) (nat_lt (slice_index_or o.extra k (0, 0)).1 (length o.steps)) r))
-          (less_out (slice_index_or o.extra k (0, 0)).1 (length o.steps) (and_right (nat_lt (slice_index_or o.extra k (0, 0)).0 (slice_index_or o.extra k (0, 0)).1) (nat_lt (slice_index_or o.extra k (0, 0)).1 (length o.steps)) r)))
+          (lt_out (slice_index_or o.extra k (0, 0)).0 (slice_index_or o.extra k (0, 0)).1 (and_left (nat_lt (slice_index_or o.extra k (0, 0)).0 (slice_index_or o.extra k (0, 0)).1) (nat_lt (slice_index_or o.extra k (0, 0)).1 (length o.steps)) r))
+          (lt_out (slice_index_or o.extra k (0, 0)).1 (length o.steps) (and_right (nat_lt (slice_index_or o.extra k (0, 0)).0 (slice_index_or o.extra k (0, 0)).1) (nat_lt (slice_index_or o.extra k (0, 0)).1 (length o.steps)) r)))
 
       places : (k : ℕ) → k < length (zip o.steps times) → is_placed task rules (pair_at (zip o.steps times) k).0 (pair_at (zip o.steps times) k).1 ≡ true
       places k l =

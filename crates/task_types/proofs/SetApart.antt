@@ -3,7 +3,8 @@ use Rattle.std.proofs.Common.{◌≡◌, refl, sym, ap, subst, ◌∙◌, ℕ, z
 use Rattle.std.specs.Prelude.{IsTrue, slice_index_or, if◌then◌else◌, nat_lt, option_to_list, is_some}
 use Rattle.std.specs.List.{list_any, list_all, filter, flat_map, enumerate_from, range_with_len}
 use Rattle.std.proofs.Math.Bool.{and_comm}
-use Rattle.std.proofs.lemmas.Bool.Decides.{nat_tests}
+use Rattle.basics.proofs.Bools.{and_left, and_right, and_in, or_left, or_right}
+use Rattle.basics.proofs.Naturals.{same_itself, same_out, lt_out}
 use Rattle.task_types.specs.declared.actions.Action.{Action}
 use Rattle.task_types.specs.declared.actions.Bound.{Bound}
 use Rattle.task_types.specs.declared.actions.Snap.{Snap}
@@ -17,16 +18,8 @@ use Rattle.task_types.specs.Clash.{clash, disturbs, condition_fluents, form_flue
 use Rattle.task_types.specs.Touch.{is_timed, looks, marks, tokens, tracked_fluents, snap_tracked, action_tracked, comparison_tokens, trail_facts, soft_facts, soft_fluents}
 use Rattle.task_types.specs.Order.{sets_apart, sets_order, link}
 use Rattle.task_types.specs.WellMade.{IsWellMade, snap_fits, condition_fits, effect_fits}
-use Rattle.task_types.proofs.Everyone.{and_left, and_right, and_in}
-use Rattle.task_types.proofs.Assigning.{same_in, same_out, snap_of_fits}
+use Rattle.task_types.proofs.Assigning.{snap_of_fits}
 use Rattle.task_types.proofs.Links.{link_comm}
-
-or_left : (a b : Bool) → a ≡ true → (a || b) ≡ true
-or_left a b e = rw e refl
-
-or_right : (a b : Bool) → b ≡ true → (a || b) ≡ true
-or_right true b e = refl
-or_right false b e = e
 
 -- ---- members
 
@@ -61,18 +54,15 @@ meet_out [] ys h = cc
 meet_out (x ∷ xs) ys h = go (is_in x ys) refl h (meet_out xs ys)
   where
     go : (b : Bool) → is_in x ys ≡ b → (b || meet xs ys) ≡ true → (meet xs ys ≡ true → (f : ℕ) × (is_in f xs ≡ true) × (is_in f ys ≡ true)) → (f : ℕ) × (is_in f (x ∷ xs) ≡ true) × (is_in f ys ≡ true)
-    go true e l r = (x, or_left (x == x) (is_in x xs) (same_in x), e)
+    go true e l r = (x, or_left (x == x) (is_in x xs) (same_itself x), e)
     go false e l r = let k = r l in (k.0, or_right (x == k.0) (is_in k.0 xs) k.1, k.2)
-
-less_out : (a b : ℕ) → nat_lt a b ≡ true → a < b
-less_out a b h = grind (arith, nat_tests)
 
 below_out : (n f : ℕ) (xs : List ℕ) → list_all (λ x. nat_lt x n) xs ≡ true → is_in f xs ≡ true → f < n
 below_out n f [] h k = cc
 below_out n f (x ∷ xs) h k = go (x == f) refl k (below_out n f xs (and_right _ _ h))
   where
     go : (b : Bool) → (x == f) ≡ b → (b || is_in f xs) ≡ true → (is_in f xs ≡ true → f < n) → f < n
-    go true e l r = subst (λ y. y < n) (same_out x f e) (less_out x n (and_left _ _ h))
+    go true e l r = subst (λ y. y < n) (same_out x f e) (lt_out x n (and_left _ _ h))
     go false e l r = r l
 
 -- a member of a list of one element's is a member of that of all

@@ -26,7 +26,8 @@ use Rattle.task_types.specs.Touch.{is_timed, touches_of}
 use Rattle.task_types.specs.Order.{Order, link, is_built, pair_link}
 use Rattle.task_types.specs.Agreement.{SameLines, are_linked, agree, link_holds, is_placed, time_at, plan_of}
 use Rattle.task_types.specs.Cost.{cost, late_value, piece_value}
-use Rattle.task_types.specs.Reckoned.{Reckoning, outcome, sums, amount_reckoned, assigned_value, rate_reckoned, move_of, late_reckoned, piece_reckoned, cost_reckoned}
+use Rattle.task_types.specs.Reckoned.{amount_reckoned, assigned_value, rate_reckoned, move_of, late_reckoned, piece_reckoned, cost_reckoned}
+use Rattle.exact_lin.specs.Reckonings.{Reckoning, outcome, sums}
 use Rattle.task_types.specs.declared.conditions.Amount.{Amount}
 use Rattle.task_types.specs.declared.costs.LateCost.{LateCost}
 use Rattle.task_types.specs.declared.costs.Piece.{Piece}

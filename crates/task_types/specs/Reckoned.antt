@@ -1,9 +1,10 @@
--- The sums and products that are reckoned in fractions of limited parts, by the happening to which they belong, and the first place where one is undefined. Nothing that says what a plan means cites this file.
-use Rattle.std.specs.Prelude.{ℕ, zero, suc, ◌+◌, ◌≡◌, ◌⊎◌, cond, ◌||◌, nat_lt, if◌then◌else◌, List, [], ◌∷◌, ◌++◌, map, length, Option, Some, None, option_to_list}
-use Rattle.std.specs.List.{AllByRecursion, flat_map, filter}
-use Rattle.rational.specs.Rational.{ℚ, zeroℚ, ◌+ℚ◌, ◌*ℚ◌, ◌-ℚ◌, neg_ℚ, inverse}
-use Rattle.exact_lin.specs.Reckoning.{wide_limit, CanAdd, CanMultiply}
-use Rattle.exact_lin.specs.Forms.{LinearForm, CanEvaluate}
+-- Believed: the sums, products and values that are reckoned for a plan, by the happening to which they belong; nothing that says what a plan means cites this file.
+-- Where all of them are defined, and which place is the first where one isn't, exact_lin says of any list of places
+-- (`AllDefined` and `IsFirstUndefined` at `wide_limit`), with the law that there is one answer.
+use Rattle.std.specs.Prelude.{ℕ, zero, suc, ◌+◌, cond, ◌||◌, nat_lt, if◌then◌else◌, List, [], ◌∷◌, ◌++◌, map, length, Option, Some, None, option_to_list}
+use Rattle.std.specs.List.{flat_map, filter}
+use Rattle.rational.specs.Rational.{ℚ, zeroℚ, ◌*ℚ◌, ◌-ℚ◌, neg_ℚ, inverse}
+use Rattle.exact_lin.specs.Reckonings.{Reckoning, Sum, Product, Value, sums}
 use Rattle.task_types.specs.declared.conditions.Amount.{Amount}
 use Rattle.task_types.specs.declared.costs.LateCost.{LateCost}
 use Rattle.task_types.specs.declared.costs.Piece.{Piece}
@@ -20,24 +21,6 @@ use Rattle.task_types.specs.Clash.{read_bounds}
 use Rattle.task_types.specs.Trace.{Trace, trace, first_moment}
 use Rattle.task_types.specs.Cost.{late_value, pieces_value, soft_cost, total_time}
 
--- A reckoning is a sum or a product of two exact numbers, or the value of a form, from its constant on, a product and a sum for each term.
-pub data Reckoning : Type 0 where
-  Sum : (q r : ℚ) → Reckoning
-  Product : (q r : ℚ) → Reckoning
-  Value : (form : LinearForm) (fluents : ℕ → ℚ) → Reckoning
-
--- It is defined where the reckoning in fractions of 128 bits is.
-abbrev pub IsDefined : Reckoning → Type 0
-IsDefined (Sum q r) = CanAdd wide_limit q r
-IsDefined (Product q r) = CanMultiply wide_limit q r
-IsDefined (Value form fluents) = CanEvaluate wide_limit form fluents
-
--- what a reckoning gives
-abbrev pub outcome : Reckoning → ℚ
-outcome (Sum q r) = q +ℚ r
-outcome (Product q r) = q *ℚ r
-outcome (Value form fluents) = value form fluents
-
 -- The end of a line is reckoned as its start plus its duration, where it has one.
 abbrev pub end_reckoned : PlanLine → List Reckoning
 end_reckoned l = map (λ d. Sum l.at d) (option_to_list l.duration)
@@ -45,11 +28,6 @@ end_reckoned l = map (λ d. Sum l.at d) (option_to_list l.duration)
 -- The lines of a plan go by their numbers in the text.
 abbrev pub lines_reckoned : Plan → List (ℕ × List Reckoning)
 lines_reckoned plan = map (λ l. (l.line, end_reckoned l)) plan
-
--- Numbers are added one by one.
-abbrev pub sums : ℚ → List ℚ → List Reckoning
-sums q [] = []
-sums q (r ∷ rs) = Sum q r ∷ sums (q +ℚ r) rs
 
 -- An amount is reckoned as its form, its factor times the duration, and their sum.
 abbrev pub amount_reckoned : Step → State → Amount → List Reckoning
@@ -158,15 +136,6 @@ cost_reckoned task plan =
     Product task.metric.last (total_time plan) ∷ Value task.metric.fluents last.fluents
     ∷ flat_map (λ s. soft_reckoned s (trace task plan) last) task.soft
     ++ sums task.metric.constant (timed ∷ fluents ∷ map (λ s. soft_cost s (trace task plan) last) task.soft)
-
--- The first undefined place, of a list of places, is the first at which not every reckoning is defined.
-abbrev pub IsFirstUndefined : {P : Type 0} → List (P × List Reckoning) → P → Type 0
-IsFirstUndefined [] p = ⊥
-IsFirstUndefined (x ∷ xs) p = (AllByRecursion IsDefined x.1 → ⊥) × (x.0 ≡ p) ⊎ AllByRecursion IsDefined x.1 × IsFirstUndefined xs p
-
--- Every reckoning of every place is defined.
-abbrev pub AllDefined : {P : Type 0} → List (P × List Reckoning) → Type 0
-AllDefined places = AllByRecursion (λ x. AllByRecursion IsDefined x.1) places
 
 -- The course up to the state before happening k has the effects of the happenings before it, and their moves.
 abbrev pub course_before : TaskParts → Plan → ℕ → List (ℕ × List Reckoning)

@@ -1,7 +1,8 @@
 -- Valid plans, and the first reason why a plan isn't valid (Fox and Long 2003: executability and validity of a plan, invariants of durative actions).
-use Rattle.std.specs.Prelude.{ℕ, Bool, true, ◌&&◌, ◌||◌, if◌then◌else◌, IsTrue, ◌⊎◌, ◌≡◌, List, [], ◌∷◌, ◌++◌, map, Option, Some, None}
+use Rattle.std.specs.Prelude.{ℕ, Bool, true, ◌&&◌, ◌||◌, if◌then◌else◌, IsTrue, List, [], ◌∷◌, ◌++◌, map, Option, Some, None}
 use Rattle.std.specs.List.{list_all, AllByRecursion, enumerate_from}
 use Rattle.rational.specs.Rational.{ℚ, zeroℚ, ◌+ℚ◌, ◌<ℚ◌}
+use Rattle.basics.specs.Duties.{Duty, duty, IsFirstUnmet}
 use Rattle.task_types.specs.declared.parts.Rules.{Rules}
 use Rattle.task_types.specs.declared.actions.Bound.{Bound}
 use Rattle.task_types.specs.declared.conditions.Condition.{Condition}
@@ -89,16 +90,8 @@ pub record Valid (task : TaskParts) (rules : Rules) (plan : Plan) : Type 0 where
   pub goal : IsTrue (holds task.goal (last_state task plan))
   pub constraints : IsTrue (list_all (λ c. met c (trace task plan)) task.hard)
 
--- A duty is what a plan has to meet at one place, and the reason where it doesn't.
-pub record Duty : Type 1 where
-  pub reason : Reason
-  pub Met : Type 0
-
-abbrev pub duty : Reason → Bool → Duty
-duty r b = record { reason = r; Met = IsTrue b }
-
 -- the clashes of each line: within itself, then with each later line, then with each timed step
-abbrev pub clash_duties : TaskParts → Rules → Plan → List Duty
+abbrev pub clash_duties : TaskParts → Rules → Plan → List (Duty Reason)
 clash_duties task rules [] = []
 clash_duties task rules (l ∷ ls) = duty (reason.Clash l.line l.line) (each_apart task rules (line_steps task l))
     ∷ map (λ m. duty (reason.Clash l.line m.line) (all_apart task rules (line_steps task l) (line_steps task m))) ls
@@ -112,15 +105,15 @@ segments (t ∷ []) = []
 segments (t ∷ u ∷ us) = (t, u) ∷ segments (u ∷ us)
 
 -- the over-all condition of a line, on each segment between adjacent happenings that lies in the line
-abbrev pub line_over_alls : TaskParts → Plan → PlanLine → List Duty
-line_over_alls task plan l = map (λ g. record { reason = reason.OverAll l.line g.0 g.1; Met = IsTrue ((l.at ≤? g.0) && (g.1 ≤? end_of l)) → HoldsWithin task plan (action_of task l.action).over_all g.0 g.1 }) (segments (happenings task plan))
+abbrev pub line_over_alls : TaskParts → Plan → PlanLine → List (Duty Reason)
+line_over_alls task plan l = map (λ g. record { fault = reason.OverAll l.line g.0 g.1; Met = IsTrue ((l.at ≤? g.0) && (g.1 ≤? end_of l)) → HoldsWithin task plan (action_of task l.action).over_all g.0 g.1 }) (segments (happenings task plan))
 
-abbrev pub over_alls : TaskParts → Plan → List PlanLine → List Duty
+abbrev pub over_alls : TaskParts → Plan → List PlanLine → List (Duty Reason)
 over_alls task plan [] = []
 over_alls task plan (l ∷ ls) = line_over_alls task plan l ++ over_alls task plan ls
 
 -- The duties of a formed plan are the eight conditions, each line by line or place by place, in the order in which reasons count.
-unfoldable pub duties : TaskParts → Rules → Plan → List Duty
+unfoldable pub duties : TaskParts → Rules → Plan → List (Duty Reason)
 duties task rules plan = map (λ l. duty (reason.Time l.line) (is_in_time rules l)) plan
     ++ map (λ l. duty (reason.Duration l.line) (has_fit_duration task rules plan l)) plan
     ++ clash_duties task rules plan
@@ -129,11 +122,6 @@ duties task rules plan = map (λ l. duty (reason.Time l.line) (is_in_time rules 
     ++ over_alls task plan plan
     ++ (duty reason.Goal (holds task.goal (last_state task plan)) ∷ [])
     ++ map (λ c. duty (reason.Constraint c.0) (met c.1 (trace task plan))) (enumerate_from 1 task.hard)
-
--- the reason of the first duty that isn't met
-abbrev pub IsFirstUnmet : List Duty → Reason → Type 0
-IsFirstUnmet [] r = ⊥
-IsFirstUnmet (d ∷ ds) r = (d.Met → ⊥) × (d.reason ≡ r) ⊎ d.Met × IsFirstUnmet ds r
 
 -- The first reason why a plan isn't valid is that of its first duty that isn't met.
 abbrev pub IsFirstReason : TaskParts → Rules → Plan → Reason → Type 0
