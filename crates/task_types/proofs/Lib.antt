@@ -21,6 +21,12 @@ pub mod Truths
 pub mod Sayings
 pub mod Values
 pub mod ExampleTasks
+pub mod ExampleStates
+pub mod ExamplePlans
+pub mod ExampleClashes
+pub mod ExampleCosts
+pub mod ExampleOrderings
+pub mod ExampleTouches
 pub mod Shown
 pub mod LeadingBack
 pub mod FormulaFacts

@@ -14,4 +14,11 @@ pub mod Reckoned
 pub mod Laws
 pub mod WellMade
 pub mod Examples
+pub mod ExampleStates
+pub mod ExamplePlans
+pub mod ExampleClashes
+pub mod ExampleCosts
+pub mod ExampleOrderings
+pub mod ExampleTouches
+pub mod ExampleTasks
 pub mod Related
