@@ -2,9 +2,9 @@
 use Rattle.std.proofs.Common.{◌≡◌, refl, sym, ap, ◌∙◌, ℕ, Bool, true, false, ◌||◌, ◌==◌, List, [], ◌∷◌, ◌++◌}
 use Rattle.std.specs.List.{flat_map}
 use Rattle.task_types.specs.declared.parts.TaskParts.{TaskParts}
-use Rattle.task_types.specs.declared.reads.Relation.{Relation}
-use Rattle.task_types.specs.declared.reads.Relation.TheVariants.{ChangedFacts, WrittenFluents, BentFluents}
-use Rattle.task_types.specs.declared.tables.Index.{Index}
+use Rattle.task_types.specs.declared.touches.relations.Relation.{Relation}
+use Rattle.task_types.specs.declared.touches.relations.Relation.TheVariants.{ChangedFacts, WrittenFluents, BentFluents}
+use Rattle.task_types.specs.declared.touches.index.Index.{Index}
 use Rattle.task_types.specs.declared.tokens.Token.{Token}
 use Rattle.task_types.specs.declared.tokens.Token.TheVariants as token
 use Rattle.task_types.specs.declared.tokens.Touch.{Touch}
@@ -33,11 +33,11 @@ found-touching task index h Look (token.Formulas facts) s = refl
 found-touching task index h Look (token.Action a) s = refl
 found-touching task index h Mark (token.Fact f) s = h.changed_facts f s
 found-touching task index h Mark (token.Fluent f) s = h.written_fluents f s
-found-touching task index h Mark (token.Comparison a fluents) s = rows_tell task WrittenFluents index.written_fluents.items h.written_fluents fluents s
-found-touching task index h Mark (token.Formulas facts) s = rows_tell task ChangedFacts index.changed_facts.items h.changed_facts facts s
+found-touching task index h Mark (token.Comparison a fluents) s = rows_tell task WrittenFluents index.written_fluents h.written_fluents fluents s
+found-touching task index h Mark (token.Formulas facts) s = rows_tell task ChangedFacts index.changed_facts h.changed_facts facts s
 found-touching task index h Mark (token.Action a) s = h.own_actions a s
 found-touching task index h Bend (token.Fact f) s = refl
 found-touching task index h Bend (token.Fluent f) s = h.bent_fluents f s
-found-touching task index h Bend (token.Comparison a fluents) s = rows_tell task BentFluents index.bent_fluents.items h.bent_fluents fluents s
+found-touching task index h Bend (token.Comparison a fluents) s = rows_tell task BentFluents index.bent_fluents h.bent_fluents fluents s
 found-touching task index h Bend (token.Formulas facts) s = refl
 found-touching task index h Bend (token.Action a) s = refl

@@ -1,12 +1,15 @@
--- The last entry of a row.
-use Rattle.std.proofs.Common.{◌≡◌, refl, sym, ap, subst, ◌∙◌, ℕ, suc, ◌-◌, ◌<◌, Bool, true, false, ◌&&◌, ◌||◌, ◌==◌, List, [], ◌∷◌, ◌++◌, length, Some, None, arith}
+-- Entries put at the ends of rows, once each.
+use Rattle.std.proofs.Common.{◌≡◌, refl, sym, ap, subst, ◌∙◌, ℕ, suc, ◌-◌, ◌<◌, ◌≤◌, Bool, true, false, ◌&&◌, ◌||◌, ◌==◌, List, [], ◌∷◌, ◌++◌, length, Some, None, arith}
 use Rattle.std.specs.Prelude.{slice_get, slice_set, slice_index_or, if◌then◌else◌}
 use Rattle.std.proofs.lemmas.Bool.Decides.{nat_tests}
-use Rattle.std.proofs.lemmas.List.{length-set, get_or-set_same, get_or-set_other}
+use Rattle.std.proofs.lemmas.List.{length-set, set-get_or, get_or-set_same, get_or-set_other}
+use Rattle.std.proofs.lemmas.List.Folds.{list_any-append}
+use Rattle.task_types.specs.declared.tokens.Token.{Token}
 use Rattle.task_types.specs.declared.tokens.Touch.{Touch}
+use Rattle.task_types.specs.declared.touches.index.Index.{Index}
 use Rattle.task_types.specs.declared.tokens.Touch.TheVariants.{Look, Mark, Bend}
 use Rattle.task_types.specs.Numbers.{is_in}
-use Rattle.task_types.specs.Related.{is_last, same_touch, put_last, ArePut}
+use Rattle.task_types.specs.Related.{is_last, same_touch, put_last, put_where, found, ArePut, IsPutInAll}
 
 pub last_is : (n : ℕ) (t : Touch) (row : List (ℕ × Touch)) (x : ℕ × Touch) → Some x ≡ slice_get row (length row - 1) → is_last n t row ≡ ((x.0 == n) && same_touch x.1 t)
 last_is n t [] x e = cc
@@ -40,47 +43,55 @@ put_again n t row = go (is_last n t row) refl
     go true e = rw e refl
     go false e = rw (is_last-append n t row (n, t), same_itself n, same_touch-itself t) refl
 
-or_true : (b : Bool) → (b || true) ≡ true
-or_true true = refl
-or_true false = refl
-
-or_false : (b : Bool) → (b || false) ≡ b
-or_false true = refl
-or_false false = refl
-
-is_in-more : (s i : ℕ) (ss : List ℕ) → is_in s (ss ++ i ∷ []) ≡ (is_in s ss || (i == s))
-is_in-more s i [] = or_false (i == s)
-is_in-more s i (x ∷ xs) = ap (λ b. (x == s) || b) (is_in-more s i xs) ∙ sym (or_assoc (x == s) (is_in s xs) (i == s))
-  where
-    or_assoc : (a b c : Bool) → ((a || b) || c) ≡ (a || (b || c))
-    or_assoc true b c = refl
-    or_assoc false b c = refl
-
 is_same : (i s : ℕ) → (i == s) ≡ true → i ≡ s
 is_same i s e = grind (arith, nat_tests)
 
 is_other : (i s : ℕ) → (i == s) ≡ false → s ≡ i → ⊥
 is_other i s e h = grind (arith, nat_tests)
 
--- one more snap action
-pub put_more : (before after : List (List (ℕ × Touch))) (n : ℕ) (t : Touch) (ss : List ℕ) (i : ℕ) → ArePut before after n t ss → ArePut before (slice_set after i (put_last n t (slice_index_or after i []))) n t (ss ++ i ∷ [])
-put_more before after n t ss i p = record {
-  long = length-set after i (put_last n t (slice_index_or after i [])) ∙ p.long;
-  each = λ s h. by_place s h (i == s) refl;
+-- ---- an entry put into the rows of some snap actions
+
+pub nothing_put : (rows : List (List (ℕ × Touch))) (n : ℕ) (t : Touch) → ArePut rows rows n t []
+nothing_put rows n t = record { long = refl; each = λ s h. refl }
+
+pub put_append : (before between after : List (List (ℕ × Touch))) (n : ℕ) (t : Touch) (ss more : List ℕ) → ArePut before between n t ss → ArePut between after n t more → ArePut before after n t (ss ++ more)
+put_append before between after n t ss more p q = record {
+  long = q.long ∙ p.long;
+  each = λ s h. q.each s (omega (arith, p.long)) ∙ ap (λ row. if is_in s more then put_last n t row else row) (p.each s h) ∙ twice (is_in s ss) (is_in s more) (slice_index_or before s [])
+      ∙ sym (ap (λ b. if b then put_last n t (slice_index_or before s []) else slice_index_or before s []) (list_any-append (λ y. y == s) ss more));
 }
   where
-    there : (s : ℕ) → s < length before → slice_index_or (slice_set after s (put_last n t (slice_index_or after s []))) s [] ≡ (if is_in s (ss ++ s ∷ []) then put_last n t (slice_index_or before s []) else slice_index_or before s [])
-    there s h = get_or-set_same after s (put_last n t (slice_index_or after s [])) [] (omega (arith, p.long)) ∙ ap (put_last n t) (p.each s h) ∙ twice (is_in s ss)
-        ∙ ap (λ b. if b then put_last n t (slice_index_or before s []) else slice_index_or before s []) (sym (is_in-more s s ss ∙ ap (λ b. is_in s ss || b) (same_itself s) ∙ or_true (is_in s ss)))
-      where
-        twice : (b : Bool) → put_last n t (if b then put_last n t (slice_index_or before s []) else slice_index_or before s []) ≡ put_last n t (slice_index_or before s [])
-        twice true = put_again n t (slice_index_or before s [])
-        twice false = refl
+    twice : (a b : Bool) (row : List (ℕ × Touch)) → (if b then put_last n t (if a then put_last n t row else row) else (if a then put_last n t row else row)) ≡ (if a || b then put_last n t row else row)
+    twice true true row = put_again n t row
+    twice true false row = refl
+    twice false b row = refl
 
-    elsewhere : (s : ℕ) → s < length before → (i == s) ≡ false → slice_index_or (slice_set after i (put_last n t (slice_index_or after i []))) s [] ≡ (if is_in s (ss ++ i ∷ []) then put_last n t (slice_index_or before s []) else slice_index_or before s [])
-    elsewhere s h d = get_or-set_other after i s (put_last n t (slice_index_or after i [])) [] (is_other i s d) ∙ p.each s h
-        ∙ ap (λ b. if b then put_last n t (slice_index_or before s []) else slice_index_or before s []) (sym (is_in-more s i ss ∙ ap (λ b. is_in s ss || b) d ∙ or_false (is_in s ss)))
+module _ (rows : List (List (ℕ × Touch))) (n : ℕ) (t : Touch) (i : ℕ) where
+  put_one : ArePut rows (slice_set rows i (put_last n t (slice_index_or rows i []))) n t (i ∷ [])
+  put_one = record { long = length-set rows i (put_last n t (slice_index_or rows i [])); each = λ s h. by_place s h (i == s) refl }
+    where
+      by_place : (s : ℕ) → s < length rows → (b : Bool) → (i == s) ≡ b → slice_index_or (slice_set rows i (put_last n t (slice_index_or rows i []))) s [] ≡ (if (i == s) || false then put_last n t (slice_index_or rows s []) else slice_index_or rows s [])
+      by_place s h true e = ap (λ k. slice_index_or (slice_set rows k (put_last n t (slice_index_or rows k []))) s []) (is_same i s e) ∙ get_or-set_same rows s (put_last n t (slice_index_or rows s [])) [] h
+          ∙ sym (ap (λ b. if b || false then put_last n t (slice_index_or rows s []) else slice_index_or rows s []) e)
+      by_place s h false e = get_or-set_other rows i s (put_last n t (slice_index_or rows i [])) [] (is_other i s e) ∙ sym (ap (λ b. if b || false then put_last n t (slice_index_or rows s []) else slice_index_or rows s []) e)
 
-    by_place : (s : ℕ) → s < length before → (b : Bool) → (i == s) ≡ b → slice_index_or (slice_set after i (put_last n t (slice_index_or after i []))) s [] ≡ (if is_in s (ss ++ i ∷ []) then put_last n t (slice_index_or before s []) else slice_index_or before s [])
-    by_place s h true e = subst (λ k. slice_index_or (slice_set after k (put_last n t (slice_index_or after k []))) s [] ≡ (if is_in s (ss ++ k ∷ []) then put_last n t (slice_index_or before s []) else slice_index_or before s [])) (sym (is_same i s e)) (there s h)
-    by_place s h false e = elsewhere s h e
+  -- the entry is put where the row doesn't end with it yet
+  pub put_new : is_last n t (slice_index_or rows i []) ≡ false → ArePut rows (slice_set rows i (slice_index_or rows i [] ++ (n, t) ∷ [])) n t (i ∷ [])
+  put_new e = subst (λ row. ArePut rows (slice_set rows i row) n t (i ∷ [])) (ap (λ b. if b then slice_index_or rows i [] else (slice_index_or rows i [] ++ (n, t) ∷ [])) e) put_one
+
+  pub put_there : is_last n t (slice_index_or rows i []) ≡ true → ArePut rows rows n t (i ∷ [])
+  put_there e = subst (λ more. ArePut rows more n t (i ∷ [])) (ap (λ b. slice_set rows i (if b then slice_index_or rows i [] else (slice_index_or rows i [] ++ (n, t) ∷ []))) e ∙ set-get_or rows i []) put_one
+
+  pub put_nowhere : length rows ≤ i → ArePut rows rows n t (i ∷ [])
+  put_nowhere l = record { long = refl; each = λ s h. sym (ap (λ b. if b || false then put_last n t (slice_index_or rows s []) else slice_index_or rows s []) (differs i s (omega (arith, h)))) }
+    where
+      differs : (i s : ℕ) → s < i → (i == s) ≡ false
+      differs i s h = grind (arith, nat_tests)
+
+-- all touches of a token, way by way
+pub put_in_all : (before looked marked after : List (List (ℕ × Touch))) (index : Index) (n : ℕ) (t : Token)
+    → ArePut before looked n Look (found index Look t) → ArePut looked marked n Mark (found index Mark t) → ArePut marked after n Bend (found index Bend t) → IsPutInAll before after index n t
+put_in_all before looked marked after index n t p q r = record {
+  long = r.long ∙ q.long ∙ p.long;
+  each = λ s h. r.each s (omega (arith, q.long, p.long)) ∙ ap (put_where n Bend (found index Bend t) s) (q.each s (omega (arith, p.long)) ∙ ap (put_where n Mark (found index Mark t) s) (p.each s h));
+}

@@ -1,6 +1,8 @@
 -- A table that leads back, made one list at a time.
 use Rattle.std.proofs.Common.{◌≡◌, refl, sym, ap, ◌∙◌, ℕ, zero, suc, ◌+◌, ◌<◌, ◌≤◌, Bool, true, false, ◌&&◌, ◌||◌, ◌==◌, List, [], ◌∷◌, ◌++◌, length, map, take, arith}
-use Rattle.std.specs.Prelude.{slice_index_or}
+use Rattle.std.specs.Prelude.{slice_index_or, slice_set}
+use Rattle.std.proofs.lemmas.List.{length-set, get_or-set_same, get_or-set_other}
+use Rattle.std.proofs.lemmas.List.Folds.{list_any-append}
 use Rattle.std.proofs.lemmas.Bool.Decides.{nat_tests}
 use Rattle.task_types.specs.Numbers.{is_in}
 use Rattle.task_types.specs.Related.{IsPut, LeadsBack}
@@ -32,15 +34,60 @@ leads_back_more rows more count lists numbers put e b p = record {
       ∙ ap (λ k. is_in n (slice_index_or lists s []) || ((k == s) && is_in n numbers)) e ∙ sym (among_lists lists numbers n s);
 }
 
-pub take-more : {X : Type 0} (xs : List X) (i : ℕ) (x : X) → i < length xs → x ≡ slice_index_or xs i x → take (i + 1) xs ≡ take i xs ++ x ∷ []
-take-more [] i x h e = absurd (omega arith)
-take-more (y ∷ ys) zero x h e = ap (λ z. z ∷ []) (sym e)
-take-more (y ∷ ys) (suc i) x h e = let s : suc i + 1 ≡ suc (i + 1) = omega arith in rw s (ap (λ zs. y ∷ zs) (take-more ys i x (omega arith) e))
+-- ---- one number put into the rows of some numbers
 
-pub map-take-more : {X Y : Type 0} (f : X → Y) (xs : List X) (i : ℕ) (x : X) → i < length xs → x ≡ slice_index_or xs i x → map f (take (i + 1) xs) ≡ map f (take i xs) ++ f x ∷ []
-map-take-more f [] i x h e = absurd (omega arith)
-map-take-more f (y ∷ ys) zero x h e = ap (λ z. f z ∷ []) (sym e)
-map-take-more f (y ∷ ys) (suc i) x h e = let s : suc i + 1 ≡ suc (i + 1) = omega arith in rw s (ap (λ zs. f y ∷ zs) (map-take-more f ys i x (omega arith) e))
+module _ (put : ℕ) where
+  and_nothing : (n s : ℕ) (row : List ℕ) → is_in s row ≡ (is_in s row || ((put == s) && false))
+  and_nothing n s row = go (is_in s row) (put == s)
+    where
+      go : (a b : Bool) → a ≡ (a || (b && false))
+      go true b = refl
+      go false true = refl
+      go false false = refl
+
+  pub put_nowhere : (rows : List (List ℕ)) → IsPut rows rows [] put
+  put_nowhere rows = record { long = refl; each = λ n s h. and_nothing n s (slice_index_or rows n []) }
+
+  pub put_past : (rows : List (List ℕ)) (row : ℕ) → length rows ≤ row → IsPut rows rows (row ∷ []) put
+  put_past rows row l = record { long = refl; each = λ n s h. and_nothing n s (slice_index_or rows n []) ∙ ap (λ b. is_in s (slice_index_or rows n []) || ((put == s) && (b || false))) (sym (other_in row n (omega (arith, h)))) }
+    where
+      other_in : (row n : ℕ) → n < row → (row == n) ≡ false
+      other_in row n h = grind (arith, nat_tests)
+
+  pub put_in : (rows : List (List ℕ)) (row : ℕ) → IsPut rows (slice_set rows row (slice_index_or rows row [] ++ put ∷ [])) (row ∷ []) put
+  put_in rows row = record { long = length-set rows row (slice_index_or rows row [] ++ put ∷ []); each = λ n s h. by_place n s h (row == n) refl }
+    where
+      by_place : (n s : ℕ) → n < length rows → (b : Bool) → (row == n) ≡ b
+          → is_in s (slice_index_or (slice_set rows row (slice_index_or rows row [] ++ put ∷ [])) n []) ≡ (is_in s (slice_index_or rows n []) || ((put == s) && ((row == n) || false)))
+      by_place n s h true e = ap (λ k. is_in s (slice_index_or (slice_set rows k (slice_index_or rows k [] ++ put ∷ [])) n [])) (same_out row n e)
+          ∙ ap (is_in s) (get_or-set_same rows n (slice_index_or rows n [] ++ put ∷ []) [] h)
+          ∙ list_any-append (λ y. y == s) (slice_index_or rows n []) (put ∷ [])
+          ∙ ap (λ b. is_in s (slice_index_or rows n []) || b) (either (put == s)) ∙ ap (λ b. is_in s (slice_index_or rows n []) || ((put == s) && (b || false))) (sym e)
+        where
+          either : (b : Bool) → (b || false) ≡ (b && (true || false))
+          either true = refl
+          either false = refl
+
+          same_out : (m n : ℕ) → (m == n) ≡ true → m ≡ n
+          same_out m n e = grind (arith, nat_tests)
+      by_place n s h false e = ap (is_in s) (get_or-set_other rows row n (slice_index_or rows row [] ++ put ∷ []) [] (other_out row n e))
+          ∙ and_nothing n s (slice_index_or rows n []) ∙ ap (λ b. is_in s (slice_index_or rows n []) || ((put == s) && (b || false))) (sym e)
+        where
+          other_out : (m n : ℕ) → (m == n) ≡ false → n ≡ m → ⊥
+          other_out m n e h = grind (arith, nat_tests)
+
+  pub put_append : (before between after : List (List ℕ)) (ns more : List ℕ) → IsPut before between ns put → IsPut between after more put → IsPut before after (ns ++ more) put
+  put_append before between after ns more p q = record {
+    long = q.long ∙ p.long;
+    each = λ n s h. q.each n s (omega (arith, p.long)) ∙ ap (λ b. b || ((put == s) && is_in n more)) (p.each n s h)
+        ∙ together (is_in s (slice_index_or before n [])) (put == s) (is_in n ns) (is_in n more)
+        ∙ ap (λ b. is_in s (slice_index_or before n []) || ((put == s) && b)) (sym (list_any-append (λ y. y == n) ns more));
+  }
+    where
+      together : (a b c d : Bool) → ((a || (b && c)) || (b && d)) ≡ (a || (b && (c || d)))
+      together true b c d = refl
+      together false true c d = refl
+      together false false c d = refl
 
 pub length-map-take : {X Y : Type 0} (f : X → Y) (xs : List X) (i : ℕ) → i ≤ length xs → length (map f (take i xs)) ≡ i
 length-map-take f [] zero h = refl

@@ -34,6 +34,7 @@ pub mod Places
 pub mod RelatedBelow
 pub mod Found
 pub mod LastEntries
+pub mod Several
 pub mod TouchRows
 pub mod FewTokens
 pub mod Crossing

@@ -12,8 +12,8 @@ use Rattle.task_types.specs.declared.actions.SnapKind.{SnapKind}
 use Rattle.task_types.specs.declared.conditions.Amount.{Amount}
 use Rattle.task_types.specs.declared.conditions.Condition.{Condition}
 use Rattle.task_types.specs.declared.parts.TaskParts.{TaskParts}
-use Rattle.task_types.specs.declared.reads.Relation.{Relation}
-use Rattle.task_types.specs.declared.reads.Relation.TheVariants.{LookedFacts, ChangedFacts, LookedFluents, WrittenFluents, BentFluents, OwnAction}
+use Rattle.task_types.specs.declared.touches.relations.Relation.{Relation}
+use Rattle.task_types.specs.declared.touches.relations.Relation.TheVariants.{LookedFacts, ChangedFacts, LookedFluents, WrittenFluents, BentFluents, OwnAction}
 use Rattle.task_types.specs.Numbers.{is_in}
 use Rattle.task_types.specs.Plan.{action_of, snap_of, no_action, no_snap}
 use Rattle.task_types.specs.Clash.{form_fluents, condition_facts, condition_fluents, is_read_at, own_action, read_bounds, read_fluents, assigned_fluents}

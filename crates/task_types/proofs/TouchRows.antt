@@ -6,7 +6,7 @@ use Rattle.std.proofs.lemmas.Bool.Decides.{nat_tests}
 use Rattle.std.proofs.lemmas.List.{length-map, append-nil}
 use Rattle.task_types.specs.declared.actions.Snap.{Snap}
 use Rattle.task_types.specs.declared.parts.TaskParts.{TaskParts}
-use Rattle.task_types.specs.declared.tables.Index.{Index}
+use Rattle.task_types.specs.declared.touches.index.Index.{Index}
 use Rattle.task_types.specs.declared.tokens.Token.{Token}
 use Rattle.task_types.specs.declared.tokens.Touch.{Touch}
 use Rattle.task_types.specs.declared.tokens.Touch.TheVariants.{Look, Mark, Bend}

@@ -1,14 +1,14 @@
--- Lists of facts, fluents and actions to which a snap action stands in some relation, and tables that lead back from them.
+-- Private: lists of facts, fluents and actions to which a snap action stands in some relation, tables that lead back from them, and rows of touches.
 use Rattle.std.specs.Prelude.{ℕ, ◌<◌, ◌≡◌, ◌==◌, ◌&&◌, ◌||◌, Bool, true, false, if◌then◌else◌, List, [], ◌∷◌, ◌++◌, length, slice_index_or}
 use Rattle.std.specs.List.{flat_map, enumerate_from}
 use Rattle.task_types.specs.declared.actions.Snap.{Snap}
 use Rattle.task_types.specs.declared.parts.TaskParts.{TaskParts}
-use Rattle.task_types.specs.declared.reads.Relation.{Relation}
-use Rattle.task_types.specs.declared.reads.Relation.TheVariants.{LookedFacts, ChangedFacts, LookedFluents, WrittenFluents, BentFluents, OwnAction}
+use Rattle.task_types.specs.declared.touches.relations.Relation.{Relation}
+use Rattle.task_types.specs.declared.touches.relations.Relation.TheVariants.{LookedFacts, ChangedFacts, LookedFluents, WrittenFluents, BentFluents, OwnAction}
 use Rattle.task_types.specs.Numbers.{is_in}
 use Rattle.task_types.specs.Plan.{snap_of}
 use Rattle.task_types.specs.Clash.{condition_facts, condition_fluents, read_facts, changed_facts, read_fluents, written_fluents}
-use Rattle.task_types.specs.declared.tables.Index.{Index}
+use Rattle.task_types.specs.declared.touches.index.Index.{Index}
 use Rattle.task_types.specs.declared.tokens.Token.{Token}
 use Rattle.task_types.specs.declared.tokens.Token.TheVariants as token
 use Rattle.task_types.specs.declared.tokens.Touch.{Touch}
@@ -56,12 +56,12 @@ pub record IsFlags (flags : List Bool) (count : ℕ) (numbers : List ℕ) : Type
 
 -- An index of a task has a table for each relation.
 pub record IsIndex (task : TaskParts) (index : Index) : Type 0 where
-  pub looked_facts : Tells task LookedFacts index.looked_facts.items
-  pub changed_facts : Tells task ChangedFacts index.changed_facts.items
-  pub looked_fluents : Tells task LookedFluents index.looked_fluents.items
-  pub written_fluents : Tells task WrittenFluents index.written_fluents.items
-  pub bent_fluents : Tells task BentFluents index.bent_fluents.items
-  pub own_actions : Tells task OwnAction index.own_actions.items
+  pub looked_facts : Tells task LookedFacts index.looked_facts
+  pub changed_facts : Tells task ChangedFacts index.changed_facts
+  pub looked_fluents : Tells task LookedFluents index.looked_fluents
+  pub written_fluents : Tells task WrittenFluents index.written_fluents
+  pub bent_fluents : Tells task BentFluents index.bent_fluents
+  pub own_actions : Tells task OwnAction index.own_actions
 
 -- a snap action touches a token in one way
 abbrev pub touches_by : TaskParts → Touch → Snap → Token → Bool
@@ -78,19 +78,19 @@ row_of rows n = slice_index_or rows n []
 
 -- the snap actions that an index finds to touch a token in one way
 abbrev pub found : Index → Touch → Token → List ℕ
-found index Look (token.Fact f) = row_of index.looked_facts.items f
-found index Look (token.Fluent f) = row_of index.looked_fluents.items f
-found index Look (token.Comparison a fluents) = row_of index.own_actions.items a
+found index Look (token.Fact f) = row_of index.looked_facts f
+found index Look (token.Fluent f) = row_of index.looked_fluents f
+found index Look (token.Comparison a fluents) = row_of index.own_actions a
 found index Look (token.Formulas facts) = []
 found index Look (token.Action a) = []
-found index Mark (token.Fact f) = row_of index.changed_facts.items f
-found index Mark (token.Fluent f) = row_of index.written_fluents.items f
-found index Mark (token.Comparison a fluents) = flat_map (row_of index.written_fluents.items) fluents
-found index Mark (token.Formulas facts) = flat_map (row_of index.changed_facts.items) facts
-found index Mark (token.Action a) = row_of index.own_actions.items a
+found index Mark (token.Fact f) = row_of index.changed_facts f
+found index Mark (token.Fluent f) = row_of index.written_fluents f
+found index Mark (token.Comparison a fluents) = flat_map (row_of index.written_fluents) fluents
+found index Mark (token.Formulas facts) = flat_map (row_of index.changed_facts) facts
+found index Mark (token.Action a) = row_of index.own_actions a
 found index Bend (token.Fact f) = []
-found index Bend (token.Fluent f) = row_of index.bent_fluents.items f
-found index Bend (token.Comparison a fluents) = flat_map (row_of index.bent_fluents.items) fluents
+found index Bend (token.Fluent f) = row_of index.bent_fluents f
+found index Bend (token.Comparison a fluents) = flat_map (row_of index.bent_fluents) fluents
 found index Bend (token.Formulas facts) = []
 found index Bend (token.Action a) = []
 

@@ -7,18 +7,15 @@ mod constraints;
 mod costs;
 mod formulas;
 pub mod laws;
-mod listing;
 mod orderings;
 mod parts;
 mod plans;
-mod reads;
 mod snapshot;
-mod tables;
 mod task;
 #[cfg(test)]
 mod tests;
 mod tokens;
-mod touching;
+mod touches;
 
 pub use actions::{Action, Bound, Schema, Snap, SnapKind};
 pub use conditions::{Amount, Condition, Effect, Literal};

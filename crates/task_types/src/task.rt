@@ -1,3 +1,5 @@
+//! A ground task: its parts, which fit together, with the touches of its snap actions.
+
 ghost use Rattle.std.specs.Prelude.{◌≡◌, ◌<◌, length, map, IfOk};
 ghost use Rattle.task_types.specs.Plan.{snap_of};
 ghost use Rattle.task_types.specs.Touch.{touches_of};
@@ -9,7 +11,7 @@ use crate::constraints::Trail;
 use crate::costs::{Metric, Soft};
 use crate::parts::{Fact, Fluent, TaskParts};
 use crate::tokens::Touch;
-use crate::touching::touch_table;
+use crate::touches::touch_table;
 use exact_lin::{Fraction, Id, NoMemory, SnapId, TokenId};
 use sqlite_items::Items;
 use std::alloc::Global;

@@ -1,3 +1,5 @@
+//! Tokens, and how a step touches one.
+
 use exact_lin::{ActionId, FactId, FluentId};
 use sqlite_items::Items;
 

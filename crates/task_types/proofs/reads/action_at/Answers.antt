@@ -1,6 +1,0 @@
-use Rattle.task_types.specs.Plan.{no_action}
-use Rattle.task_types.proofs.Shown.{read_none}
-use Rattle.task_types.proofs.reads.action_at.Goals as goal
-
-pub returns-in-None : goal.returns-in-None
-returns-in-None c = read_none c.args.parts.now.actions c.args.id no_action (rw c.number.ensures at c.in-None.ensures.value)

@@ -1,7 +1,0 @@
-use Rattle.std.proofs.Common.{◌≡◌, ◌++◌, take}
-use Rattle.std.specs.List.{flat_map}
-use Rattle.task_types.specs.Clash.{form_fluents}
-use Rattle.task_types.proofs.reads.push_forms.Given as goal
-
-abbrev pub invariant-loop-form : goal.invariant-loop-form
-invariant-loop-form l = l.out ≡ l.fn.out ++ flat_map form_fluents (take l.form-index l.forms)

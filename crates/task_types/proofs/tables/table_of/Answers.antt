@@ -1,8 +1,0 @@
-use Rattle.std.proofs.Common.{subst, map}
-use Rattle.task_types.specs.Related.{related, LeadsBack}
-use Rattle.task_types.proofs.RelatedBelow.{table-tells}
-use Rattle.task_types.proofs.tables.table_of.Goals as goal
-
-pub returns : goal.returns
-returns c = table-tells c.args.parts.now c.args.relation c.in_ok-rows.rows.items c.requires
-    (subst (λ n. LeadsBack c.in_ok-rows.rows.items n (map (related c.args.parts.now c.args.relation) c.args.parts.now.snaps)) c.count_of.ensures c.in_ok-rows.ensures)
