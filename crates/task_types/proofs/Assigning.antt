@@ -14,7 +14,8 @@ use Rattle.task_types.specs.declared.actions.Snap.{Snap}
 use Rattle.task_types.specs.declared.conditions.Amount.{Amount}
 use Rattle.task_types.specs.declared.parts.Rules.{Rules}
 use Rattle.task_types.specs.declared.parts.TaskParts.{TaskParts}
-use Rattle.task_types.specs.Numbers.{◌≤?◌, ◌=?◌, is_in, meet, are_distinct}
+use Rattle.task_types.specs.Tests.{◌≤?◌, ◌=?◌}
+use Rattle.task_types.specs.Sets.{is_in, meet, are_distinct}
 use Rattle.task_types.specs.Plan.{Plan, Step, snap_of, no_snap, plan_steps, timed_steps, steps}
 use Rattle.task_types.specs.Course.{entries_of, effect_of}
 use Rattle.task_types.specs.Clash.{clash, disturbs, assigned_fluents, written_fluents, increased_fluents, read_facts, changed_facts, read_fluents}

@@ -1,4 +1,5 @@
--- At a happening the states by time are the states by number; the first moment of a formula is the time of its first state.
+-- At a happening the states by time are the states by number; the first moment of a formula is the time of its first
+-- state.
 use Rattle.std.proofs.Common.{◌≡◌, refl, ap, ◌∙◌, ℕ, zero, suc, ◌<◌, Bool, true, false, cond, List, [], ◌∷◌, length, Some, None}
 use Rattle.std.specs.Prelude.{slice_index_or, slice_get, position, option_and_then}
 use Rattle.std.specs.List.{find, position_or_len}

@@ -7,7 +7,7 @@ use Rattle.rational.specs.Rational.{ℚ, cmp_ℚ, ◌≤ℚ◌, ◌<ℚ◌}
 use Rattle.rational.proofs.Comparisons.{cmp_ranks, lt_is_less}
 use Rattle.rational.proofs.Order.{lt_irrefl, lt_le}
 use Rattle.rational.proofs.Inequalities.{le_from_eq, lt_not_le}
-use Rattle.task_types.specs.Numbers.{is_less, is_equal, ◌<?◌, ◌≤?◌, ◌=?◌}
+use Rattle.task_types.specs.Tests.{is_less, is_equal, ◌<?◌, ◌≤?◌, ◌=?◌}
 
 pub lt_out : (q r : ℚ) → (q <? r) ≡ true → q <ℚ r
 lt_out q r = go (cmp_ℚ q r) (cmp_ranks q r)

@@ -7,7 +7,7 @@ use Rattle.rational.proofs.Order.{lt_le, ℚ_ordered}
 use Rattle.rational.proofs.Ring.{◌⊕◌, ◌⊗◌, minus, num, ◌≐◌, ◌≼◌}
 use Rattle.rational.proofs.Solve.{linear as linearly, ◌⊢◌}
 use Rattle.exact_lin.specs.Forms.{LinearForm}
-use Rattle.task_types.specs.Numbers.{◌≤?◌}
+use Rattle.task_types.specs.Tests.{◌≤?◌}
 use Rattle.task_types.specs.State.{State, value, holds}
 use Rattle.task_types.specs.Plan.{happenings, action_of}
 use Rattle.task_types.specs.Course.{initial, rate, moved, happen, reached, before, after, state_after}

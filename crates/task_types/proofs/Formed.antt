@@ -19,7 +19,8 @@ use Rattle.task_types.specs.Order.{Order}
 use Rattle.task_types.specs.WellMade.{IsWellMade, are_numbered, are_timed, has_snaps, is_snap_of, is_number, same_kind, snap_count, snap_total}
 use Rattle.task_types.proofs.Assigning.{at_read}
 
--- a snap action is timed, or its action is one of the task that is durative where the snap action is no instantaneous one
+-- a snap action is timed, or its action is one of the task that is durative where the snap action is no instantaneous
+-- one
 pub data IsOwned (task : TaskParts) (s : Snap) : Type 0 where
   timed : s.kind ≡ Timed → IsOwned task s
   started : (a : ℕ) → s.kind ≡ Start → s.action ≡ Some a → a < length task.actions → is_some (action_of task a).end ≡ true → IsOwned task s

@@ -4,7 +4,7 @@ use Rattle.std.specs.Prelude.{IsPermutation, if◌then◌else◌}
 use Rattle.rational.specs.Rational.{ℚ, ◌≤ℚ◌}
 use Rattle.rational.proofs.Order.{lt_le, le_antisymm}
 use Rattle.rational.proofs.Inequalities.{le_trans}
-use Rattle.task_types.specs.Numbers.{◌≤?◌}
+use Rattle.task_types.specs.Tests.{◌≤?◌}
 use Rattle.task_types.specs.Cost.{greater, greatest}
 use Rattle.task_types.proofs.Comparisons.{le_out, later_out, eq_le}
 use Rattle.task_types.proofs.Reordering.{reordered}

@@ -5,7 +5,7 @@ use Rattle.std.specs.List.{filter, flat_map, range_with_len, enumerate_from}
 use Rattle.std.proofs.lemmas.List.{append-nil, map-append, take_more}
 use Rattle.std.proofs.lemmas.List.Concat.{flat_map-append}
 use Rattle.std.proofs.lemmas.List.Elements.{filter-append}
-use Rattle.task_types.specs.Numbers.{numbers, is_in}
+use Rattle.task_types.specs.Sets.{numbers, is_in}
 use Rattle.task_types.specs.Related.{IsFlags}
 
 range-more : (a i : ℕ) → range_with_len a (i + 1) ≡ range_with_len a i ++ (a + i) ∷ []

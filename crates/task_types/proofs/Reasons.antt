@@ -16,7 +16,7 @@ use Rattle.basics.specs.Duties.{Duty, AllMet}
 use Rattle.task_types.specs.declared.plans.Reason.{Reason}
 use Rattle.task_types.specs.declared.parts.TaskParts.{TaskParts}
 use Rattle.task_types.specs.declared.plans.PlanLine.{PlanLine}
-use Rattle.task_types.specs.Numbers.{◌≤?◌}
+use Rattle.task_types.specs.Tests.{◌≤?◌}
 use Rattle.task_types.specs.Plan.{Plan, IsFormed, action_of, end_of, line_steps, timed_steps, steps, ascending, in_place, beside, happenings}
 use Rattle.task_types.specs.Course.{time_of}
 use Rattle.task_types.specs.Valid.{HoldsWithin, HoldsOverAll, segments, line_over_alls}

@@ -19,7 +19,7 @@ use Rattle.basics.proofs.Lists.{all_out, all_in, each_left}
 use Rattle.task_types.specs.declared.parts.TaskParts.{TaskParts}
 use Rattle.task_types.specs.declared.conditions.Condition.{Condition}
 use Rattle.task_types.specs.declared.plans.PlanLine.{PlanLine}
-use Rattle.task_types.specs.Numbers.{◌<?◌, ◌≤?◌, ◌=?◌, total}
+use Rattle.task_types.specs.Tests.{◌<?◌, ◌≤?◌, ◌=?◌, total}
 use Rattle.task_types.specs.State.{State, value, literal_holds, comparison_holds, holds}
 use Rattle.task_types.specs.Plan.{Plan, IsFormed, is_formed, runs_at, action_of, end_of, end_step, line_steps, timed_steps, steps, ascending, in_place, beside, happenings}
 use Rattle.task_types.specs.Course.{runs_between, rates_of, rate, moved, happen, reached, before, after, time_of, steps_at, state_after, state_before, count}

@@ -12,7 +12,7 @@ use Rattle.task_types.specs.declared.orderings.Link.TheVariants.{Free, Weak, Apa
 use Rattle.task_types.specs.declared.parts.TaskParts.{TaskParts}
 use Rattle.task_types.specs.declared.tokens.Token.{Token}
 use Rattle.task_types.specs.declared.tokens.Token.TheVariants as token
-use Rattle.task_types.specs.Numbers.{is_in, meet, are_several, numbers}
+use Rattle.task_types.specs.Sets.{is_in, meet, are_several, numbers}
 use Rattle.task_types.specs.Plan.{action_of, snap_of, no_action, no_snap}
 use Rattle.task_types.specs.Clash.{clash, disturbs, condition_fluents, form_fluents, read_facts, changed_facts, read_fluents, read_bounds, own_action, assigned_fluents, increased_fluents, written_fluents, is_read_at}
 use Rattle.task_types.specs.Touch.{is_timed, looks, marks, tokens, tracked_fluents, snap_tracked, action_tracked, comparison_tokens, trail_facts, soft_facts, soft_fluents}

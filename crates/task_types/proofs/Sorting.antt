@@ -9,7 +9,7 @@ use Rattle.rational.proofs.Solve.{contradiction}
 use Rattle.basics.proofs.Bools.{and_left, and_right, and_in}
 use Rattle.task_types.specs.declared.parts.TaskParts.{TaskParts}
 use Rattle.task_types.specs.declared.parts.Rules.{Rules}
-use Rattle.task_types.specs.Numbers.{◌≤?◌}
+use Rattle.task_types.specs.Tests.{◌≤?◌}
 use Rattle.task_types.specs.Plan.{snap_of}
 use Rattle.task_types.specs.declared.orderings.Link.{Link}
 use Rattle.task_types.specs.declared.orderings.Link.TheVariants.{Free, Weak, Apart}

@@ -5,7 +5,7 @@ use native.Mathlib.Decide.{dec_lt}
 use Rattle.std.proofs.lemmas.Bool.Decides.{nat_tests}
 use Rattle.basics.proofs.Bools.{and_left, and_right, and_in}
 use Rattle.task_types.specs.declared.constraints.TrailKind.TheVariants.{AtMostOnce}
-use Rattle.task_types.specs.Numbers.{every, ◌⇒◌}
+use Rattle.task_types.specs.Tests.{every, ◌⇒◌}
 use Rattle.task_types.specs.Trace.{kept}
 
 pub every_out : (n : ℕ) (p : ℕ → Bool) → every n p ≡ true → (i : ℕ) → i < n → p i ≡ true

@@ -10,7 +10,7 @@ use Rattle.task_types.specs.declared.conditions.Condition.{Condition}
 use Rattle.task_types.specs.declared.parts.Rules.{Rules}
 use Rattle.task_types.specs.declared.parts.TaskParts.{TaskParts}
 use Rattle.task_types.specs.declared.plans.PlanLine.{PlanLine}
-use Rattle.task_types.specs.Numbers.{◌≤?◌, total}
+use Rattle.task_types.specs.Tests.{◌≤?◌, total}
 use Rattle.task_types.specs.State.{State, holds, value}
 use Rattle.task_types.specs.Plan.{Plan, Step, is_formed, action_of, snap_of, end_of, plan_steps, timed_steps}
 use Rattle.task_types.specs.Course.{before, last_state}

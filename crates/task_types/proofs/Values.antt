@@ -10,7 +10,7 @@ use Rattle.task_types.specs.declared.costs.LateCost.{LateCost}
 use Rattle.task_types.specs.declared.costs.Piece.{Piece}
 use Rattle.task_types.specs.declared.parts.TaskParts.{TaskParts}
 use Rattle.task_types.specs.declared.plans.PlanLine.{PlanLine}
-use Rattle.task_types.specs.Numbers.{◌≤?◌, total}
+use Rattle.task_types.specs.Tests.{◌≤?◌, total}
 use Rattle.task_types.specs.State.{State, value}
 use Rattle.task_types.specs.Plan.{Plan, Step}
 use Rattle.task_types.specs.Course.{increased, happen, rates_of, runs_between, rate, moved, last_state}

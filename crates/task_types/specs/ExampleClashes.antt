@@ -18,7 +18,8 @@ doing effect = at_once 9 always_true effect
 abbrev pub rises_by : Effect
 rises_by = record { adds = []; deletes = []; assigns = []; increases = (1, record { form = linear (n 0) ((0, n 1) ∷ []); duration = n 0 }) ∷ [] }
 
--- A task matters for a clash by its duration bounds alone, which are read at the end in `charge true` and at the start in `charge false`.
+-- A task matters for a clash by its duration bounds alone, which are read at the end in `charge true` and at the start
+-- in `charge false`.
 pub record ClashesComeOut : Type 0 where
   pub adds_deletes : clash flags (doing (makes 0)) (doing (ends_fact 0)) ≡ true
   pub adds_twice : clash flags (doing (makes 0)) (doing (makes 0)) ≡ false

@@ -31,7 +31,8 @@ pub record ClosedOrderingsComeOut : Type 0 where
   pub no_timed_steps : is_closed gate (of_steps (0 ∷ 1 ∷ [])) ≡ false
   pub still_running : is_closed gate (of_steps (2 ∷ 0 ∷ 3 ∷ [])) ≡ false
 
--- Raising before lowering keeps a sum, and lowering first breaks it; a weak link asks for no earlier time, an extra pair for epsilon, a timed step for its moment.
+-- Raising before lowering keeps a sum, and lowering first breaks it; a weak link asks for no earlier time, an extra
+-- pair for epsilon, a timed step for its moment.
 pub record TimesComeOut : Type 0 where
   pub its_plan : plan_of pair_watch up_then_down up_then_down_times ≡ up_then_down_plan
   pub its_times : ValidTimes pair_watch rules up_then_down up_then_down_times

@@ -18,7 +18,8 @@ nobody_through = record gate { hard = trail Always (fact_fails 1) (n 0) ∷ [] }
 abbrev pub always_open : TaskParts
 always_open = record gate { hard = pair_trail SometimeBefore done (fact_fails 0) ∷ trail Always done (n 0) ∷ [] }
 
--- Filling from 0 just reaches the bound at its end, and from 1 overflows; bounds are read where they are tagged; the gate is open from 5 to 10.
+-- Filling from 0 just reaches the bound at its end, and from 1 overflows; bounds are read where they are tagged; the
+-- gate is open from 5 to 10.
 pub record PlansAreValid : Type 0 where
   pub full : Valid (tank (n 0)) rules fill
   pub charged : Valid (charge true) rules (lasting 0 (n 0) (n 1) 1 ∷ [])

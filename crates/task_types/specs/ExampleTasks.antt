@@ -158,7 +158,8 @@ pub record NamesAreRefused : Type 0 where
   pub too_long : ¬ IsWellMade (with_objects (replicate 65 97 ∷ codes "b" ∷ []))
   pub point : ¬ IsWellMade (with_objects (codes "a" ∷ codes "b.c" ∷ []))
 
--- schemas twice or in upper case, an object out of range; of an action: no schema, one of the other kind, too few, too many or other arguments
+-- schemas twice or in upper case, an object out of range; of an action: no schema, one of the other kind, too few, too
+-- many or other arguments
 pub record SchemasAreRefused : Type 0 where
   pub twice : ¬ IsWellMade (with_schemas (run ∷ stop ∷ run ∷ []))
   pub upper_case : ¬ IsWellMade (with_schemas (run ∷ stop ∷ record stop { name = codes "Go" } ∷ []))
@@ -183,7 +184,8 @@ pub record ActionsAreRefused : Type 0 where
   pub over_all_fluent : ¬ IsWellMade (running_under [] (asks (reads 1 ∷ [])))
   pub nine_comparisons : ¬ IsWellMade (running_under [] (asks (replicate 9 (reads 0))))
 
--- of a snap action: a fact or fluent out of range, a fluent assigned twice, a factor of the duration at an instantaneous action, rates anywhere but at a start
+-- of a snap action: a fact or fluent out of range, a fluent assigned twice, a factor of the duration at an
+-- instantaneous action, rates anywhere but at a start
 pub record SnapsAreRefused : Type 0 where
   pub condition_fact : ¬ IsWellMade (stopping_by (fact_holds 1) nothing)
   pub condition_fluent : ¬ IsWellMade (stopping_by (asks (reads 1 ∷ [])) nothing)
@@ -208,7 +210,8 @@ pub record NumbersAreRefused : Type 0 where
   pub wrong_kind : ¬ IsWellMade (with_snaps (at_end 0 nothing) (at_end 0 nothing) (at_once 1 always_true nothing))
   pub spare : ¬ IsWellMade (record plain { timed = (n 5, 3) ∷ [] })
 
--- timed steps that have an action, ask for something or change a fluent; moments of 0, twice or out of order; numbers out of order; 65 of them
+-- timed steps that have an action, ask for something or change a fluent; moments of 0, twice or out of order; numbers
+-- out of order; 65 of them
 pub record TimedStepsAreRefused : Type 0 where
   pub with_action : ¬ IsWellMade (opening_by (record (at_moment (makes 0)) { action = Some 0 }))
   pub with_condition : ¬ IsWellMade (opening_by (record (at_moment (makes 0)) { condition = fact_holds 0 }))
@@ -227,7 +230,8 @@ pub record GoalsAreRefused : Type 0 where
   pub fact : ¬ IsWellMade (record plain { goal = fact_holds 1 })
   pub fluent : ¬ IsWellMade (record plain { goal = asks (reads 1 ∷ []) })
 
--- of a constraint or soft term: a fact or fluent out of range; 513 of them; a weight or top below 0, a rise from below 0 or up to no later moment
+-- of a constraint or soft term: a fact or fluent out of range; 513 of them; a weight or top below 0, a rise from below
+-- 0 or up to no later moment
 pub record TermsAreRefused : Type 0 where
   pub first : ¬ IsWellMade (with_hard (trail Always unknown (n 0)))
   pub second : ¬ IsWellMade (with_hard (pair_trail SometimeAfter done unknown))
@@ -246,7 +250,8 @@ pub record TermsAreRefused : Type 0 where
   pub soft_below_zero : ¬ IsWellMade (with_soft (soft.Late done (record late { soft = minus_one }) (n 1)))
   pub no_rise : ¬ IsWellMade (with_soft (soft.Late done (record late { hard = n 2 }) (n 1)))
 
--- no pieces, 17, an end at 0, ends out of order, a piece that falls, begins below 0 or begins below the end of the one before
+-- no pieces, 17, an end at 0, ends out of order, a piece that falls, begins below 0 or begins below the end of the one
+-- before
 pub record PiecesAreRefused : Type 0 where
   pub none : ¬ IsWellMade (pieces [])
   pub seventeen : ¬ IsWellMade (pieces (rising 17 0))

@@ -1,4 +1,5 @@
--- Believed: small tasks, plans and orderings on which the definitions are tried; the other files of examples say what they give there.
+-- Believed: small tasks, plans and orderings on which the definitions are tried.
+-- What they give there is said in the other files of examples.
 use Rattle.std.specs.Prelude.{ℕ, Bool, true, false, List, [], ◌∷◌, Some, None, pos, negsuc, codes}
 use Rattle.rational.specs.Rational.{ℚ, ratio}
 use Rattle.exact_lin.specs.Forms.{LinearForm}
@@ -111,7 +112,8 @@ once a t l = record { action = a; at = t; duration = None; line = l }
 
 -- ---- tasks
 
--- Filling raises the level, q at first, by 2 per unit of time, and it is to be at most 10 all the while; a leak lowers it by 1.
+-- Filling raises the level, q at first, by 2 per unit of time, and it is to be at most 10 all the while; a leak lowers
+-- it by 1.
 abbrev pub tank : ℚ → TaskParts
 tank q = record {
   objects = [];
@@ -213,7 +215,8 @@ work d terms = record {
 abbrev pub done : FactTree
 done = tree.Is (record { fact = 0; holds = true })
 
--- Charging takes at least 1 and at most the level, 0 at first and rising by 2; the upper bound is read at the end, or else at the start.
+-- Charging takes at least 1 and at most the level, 0 at first and rising by 2; the upper bound is read at the end, or
+-- else at the start.
 abbrev pub charge : Bool → TaskParts
 charge late = record {
   objects = [];
@@ -245,7 +248,8 @@ puts more = record {
   metric = by_time;
 }
 
--- `flip` needs p, true at first, to be false; `double` deletes and adds q, and doubles r, 1 at first; `more` ends only where q holds, and raises r by its duration.
+-- `flip` needs p, true at first, to be false; `double` deletes and adds q, and doubles r, 1 at first; `more` ends only
+-- where q holds, and raises r by its duration.
 abbrev pub small : TaskParts
 small = record {
   objects = [];

@@ -1,4 +1,4 @@
--- What the definitions are to satisfy, besides what they say: laws that show them to be the ones that are meant.
+-- Believed: laws that show the definitions to be the ones that are meant.
 use Rattle.std.specs.Prelude.{ℕ, suc, ◌<◌, ◌≤◌, ◌≡◌, ◌⊎◌, ◌↔◌, Bool, true, false, not, ◌&&◌, ◌||◌, ◌==◌, if◌then◌else◌, IsTrue, List, [], ◌∷◌, map, length, slice_index, slice_get, Contains, Some, cond, option_and_then}
 use Rattle.std.specs.List.{AllByRecursion, list_all, list_any, flat_map}
 use Rattle.std.specs.Option.{option_map}
@@ -12,7 +12,7 @@ use Rattle.task_types.specs.declared.constraints.Trail.{Trail}
 use Rattle.task_types.specs.declared.formulas.FactTree.{FactTree}
 use Rattle.task_types.specs.declared.constraints.TrailKind.{TrailKind}
 use Rattle.task_types.specs.declared.constraints.TrailKind.TheVariants.{Always, Sometime, Within, AtMostOnce, SometimeAfter, SometimeBefore, AtEnd}
-use Rattle.task_types.specs.Numbers.{◌≤?◌, ◌⇒◌}
+use Rattle.task_types.specs.Tests.{◌≤?◌, ◌⇒◌}
 use Rattle.task_types.specs.State.{State, holds, tree_holds}
 use Rattle.task_types.specs.Trace.{Trace, Moment, at, met, first_state, first_moment}
 use Rattle.task_types.specs.Plan.{Plan, Step, IsFormed, snap_of, steps, happenings}
@@ -74,7 +74,8 @@ pub record BothWaysRound : Type 0 where
 abbrev pub AssignsOnce : TaskParts → Plan → Type 0
 AssignsOnce task plan = (t : ℚ) (f : ℕ) → length (flat_map (λ step. entries_of f (effect_of task step).assigns) (steps_at task plan t)) ≤ 1
 
--- The order of a plan's lines, and the numbers that they have in a text, are free: they change no state where no two assignments to one fluent meet, which is so in a valid plan, and then neither validity nor cost.
+-- The order of a plan's lines, and the numbers that they have in a text, are free: they change no state where no two
+-- assignments to one fluent meet, which is so in a valid plan, and then neither validity nor cost.
 pub record LinesInAnyOrder : Type 0 where
   pub states : (task : TaskParts) (plan other : Plan) (t : ℚ) → SameLines plan other → AssignsOnce task plan → (before task plan t ≡ before task other t) × (after task plan t ≡ after task other t)
   pub assigns_once : (task : TaskParts) (rules : Rules) (plan : Plan) → IsWellMade task → ArePositive rules → Valid task rules plan → AssignsOnce task plan
@@ -126,7 +127,8 @@ kept_along AtEnd a b soon ms = ends_with a ms
 abbrev pub NoGap : Trace → (Moment → Bool) → Type 0
 NoGap xs a = (i j k : ℕ) → i ≤ j → j ≤ k → IsTrue (at xs i a) → IsTrue (at xs j (λ m. not (a m))) → IsTrue (at xs k a) → ⊥
 
--- Each constraint is met exactly where it is kept by one pass along the states, and at most once says that there is no gap.
+-- Each constraint is met exactly where it is kept by one pass along the states, and at most once says that there is no
+-- gap.
 pub record ConstraintsAlongTheTrace : Type 0 where
   pub along : (c : Trail) (xs : Trace) → met c xs ≡ kept_along c.kind (λ m. tree_holds c.first m.facts) (λ m. tree_holds c.second m.facts) (λ m. m.time ≤? c.moment) xs
   pub no_gap : (c : Trail) (xs : Trace) → c.kind ≡ AtMostOnce → IsTrue (met c xs) ↔ NoGap xs (λ m. tree_holds c.first m.facts)
@@ -143,7 +145,8 @@ abbrev pub ends_at : ℚ → List Reckoning → ℚ
 ends_at q [] = q
 ends_at q (r ∷ rs) = ends_at (outcome r) rs
 
--- The reckonings of an amount, of a fluent's effects at a happening, of its move, of a time cost and of the cost end at the exact value that is meant; so where all of them are defined, that value is what was reckoned.
+-- The reckonings of an amount, of a fluent's effects at a happening, of its move, of a time cost and of the cost end at
+-- the exact value that is meant; so where all of them are defined, that value is what was reckoned.
 pub record ReckoningsEndAtTheValue : Type 0 where
   pub amounts : (step : Step) (s : State) (a : Amount) → ends_at zeroℚ (amount_reckoned step s a) ≡ amount step s a
   pub effects : (task : TaskParts) (here : List Step) (s : State) (f : ℕ) → ends_at (assigned_value task here s f) (sums (assigned_value task here s f) (increased task here s f)) ≡ (happen task here s).fluents f
@@ -155,7 +158,8 @@ pub record ReckoningsEndAtTheValue : Type 0 where
 
 -- ---- orderings
 
--- Times agree pair by pair with an ordering where they are as many as its steps, the link of each step with each later one holds, and each step has its place in time.
+-- Times agree pair by pair with an ordering where they are as many as its steps, the link of each step with each later
+-- one holds, and each step has its place in time.
 pub record AgreeInPairs (task : TaskParts) (rules : Rules) (o : Order) (times : List ℚ) : Type 0 where
   pub lengths : length times ≡ length o.steps
   pub links : (i j : ℕ) → i < j → j < length o.steps → IsTrue (link_holds rules (pair_link task o i j) (time_at times i) (time_at times j))
@@ -166,7 +170,8 @@ abbrev pub AgreementGoesByPairs : Type 0
 AgreementGoesByPairs = (task : TaskParts) (rules : Rules) (o : Order) (times : List ℚ) → ArePositive rules → IsTrue (is_built task o)
     → IsTrue (agree task rules o times) ↔ AgreeInPairs task rules o times
 
--- Snap actions that clash, and aren't both timed, are set apart; so times that agree keep them at the distance that validity asks.
+-- Snap actions that clash, and aren't both timed, are set apart; so times that agree keep them at the distance that
+-- validity asks.
 abbrev pub ClashesAreSetApart : Type 0
 ClashesAreSetApart = (task : TaskParts) (i j : ℕ) → IsWellMade task → IsTrue (clash task (snap_of task i) (snap_of task j))
     → IsTrue (not (is_timed (snap_of task i).kind && is_timed (snap_of task j).kind)) → link task (snap_of task i) (snap_of task j) ≡ Apart
@@ -194,7 +199,8 @@ bends_one _ _ = false
 abbrev pub some_meeting : (Touch → Touch → Bool) → List (ℕ × Touch) → List (ℕ × Touch) → Bool
 some_meeting test xs ys = list_any (λ x. list_any (λ y. (x.0 == y.0) && test x.1 y.1) ys) xs
 
--- The link of two snap actions is read off their touches: Apart where one marks a token that the other marks or looks at, else Weak where one bends a token that the other touches, else Free.
+-- The link of two snap actions is read off their touches: Apart where one marks a token that the other marks or looks
+-- at, else Weak where one bends a token that the other touches, else Free.
 abbrev pub LinksByTouches : Type 0
 LinksByTouches = (task : TaskParts) (x y : Snap)
     → link task x y ≡ (if is_timed x.kind && is_timed y.kind then Free

@@ -1,4 +1,5 @@
-pub mod Numbers
+pub mod Tests
+pub mod Sets
 pub mod State
 pub mod Plan
 pub mod Course

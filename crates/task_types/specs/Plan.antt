@@ -1,4 +1,5 @@
--- Timed plans: their lines, their steps and their happenings (Fox and Long 2003: plans, the induced simple plan, happenings).
+-- Believed: timed plans, their lines, their steps and their happenings.
+-- A plan stands for its induced simple plan (Fox and Long 2003).
 use Rattle.std.specs.Prelude.{ℕ, Bool, ◌&&◌, nat_lt, if◌then◌else◌, IsTrue, List, [], ◌∷◌, ◌++◌, map, length, slice_index_or, Option, Some, None, unwrap_or, is_some, is_none}
 use Rattle.std.specs.List.{flat_map, list_all}
 use Rattle.std.specs.declared.cmp.Ordering.{Ordering}
@@ -9,7 +10,7 @@ use Rattle.task_types.specs.declared.plans.PlanLine.{PlanLine}
 use Rattle.task_types.specs.declared.actions.Action.{Action}
 use Rattle.task_types.specs.declared.actions.Snap.{Snap}
 use Rattle.task_types.specs.declared.actions.SnapKind.TheVariants.{Timed}
-use Rattle.task_types.specs.Numbers.{◌<?◌}
+use Rattle.task_types.specs.Tests.{◌<?◌}
 
 -- what stands where a number is out of range, which no number of a task is
 abbrev pub no_action : Action

@@ -1,4 +1,5 @@
--- Valid plans, and the first reason why a plan isn't valid (Fox and Long 2003: executability and validity of a plan, invariants of durative actions).
+-- Believed: valid plans, and the first reason why a plan isn't valid.
+-- After Fox and Long 2003: executability and validity of a plan, invariants of durative actions.
 use Rattle.std.specs.Prelude.{ℕ, Bool, true, ◌&&◌, ◌||◌, if◌then◌else◌, IsTrue, List, [], ◌∷◌, ◌++◌, map, Option, Some, None}
 use Rattle.std.specs.List.{list_all, AllByRecursion, enumerate_from}
 use Rattle.rational.specs.Rational.{ℚ, zeroℚ, ◌+ℚ◌, ◌<ℚ◌}
@@ -10,7 +11,7 @@ use Rattle.task_types.specs.declared.parts.TaskParts.{TaskParts}
 use Rattle.task_types.specs.declared.plans.PlanLine.{PlanLine}
 use Rattle.task_types.specs.declared.plans.Reason.{Reason}
 use Rattle.task_types.specs.declared.plans.Reason.TheVariants as reason
-use Rattle.task_types.specs.Numbers.{◌≤?◌, ◌⇒◌}
+use Rattle.task_types.specs.Tests.{◌≤?◌, ◌⇒◌}
 use Rattle.task_types.specs.State.{value, holds}
 use Rattle.task_types.specs.Plan.{Plan, Step, IsFormed, action_of, snap_of, end_of, line_steps, plan_steps, timed_steps, happenings}
 use Rattle.task_types.specs.Course.{before, after, last_state}
@@ -70,7 +71,8 @@ end_holds task plan l (Some s) = holds (snap_of task s).condition (before task p
 abbrev pub can_end : TaskParts → Plan → PlanLine → Bool
 can_end task plan l = end_holds task plan l (action_of task l.action).end
 
--- A condition holds within two times where it holds at every instant strictly between them, and at a happening among these both in the state before and in the state after.
+-- A condition holds within two times where it holds at every instant strictly between them, and at a happening among
+-- these both in the state before and in the state after.
 abbrev pub HoldsWithin : TaskParts → Plan → Condition → ℚ → ℚ → Type 0
 HoldsWithin task plan c from to = (t : ℚ) → from <ℚ t → t <ℚ to → IsTrue (holds c (before task plan t)) × IsTrue (holds c (after task plan t))
 
@@ -78,7 +80,8 @@ HoldsWithin task plan c from to = (t : ℚ) → from <ℚ t → t <ℚ to → Is
 abbrev pub HoldsOverAll : TaskParts → Plan → PlanLine → Type 0
 HoldsOverAll task plan l = HoldsWithin task plan (action_of task l.action).over_all l.at (end_of l)
 
--- A plan is valid where it is formed and all eight hold; seventh, the goal holds in the last state, and eighth, the trace meets each hard constraint.
+-- A plan is valid where it is formed and all eight hold; seventh, the goal holds in the last state, and eighth, the
+-- trace meets each hard constraint.
 pub record Valid (task : TaskParts) (rules : Rules) (plan : Plan) : Type 0 where
   pub formed : IsFormed task plan
   pub in_time : IsTrue (list_all (is_in_time rules) plan)
@@ -112,7 +115,8 @@ abbrev pub over_alls : TaskParts → Plan → List PlanLine → List (Duty Reaso
 over_alls task plan [] = []
 over_alls task plan (l ∷ ls) = line_over_alls task plan l ++ over_alls task plan ls
 
--- The duties of a formed plan are the eight conditions, each line by line or place by place, in the order in which reasons count.
+-- The duties of a formed plan are the eight conditions, each line by line or place by place, in the order in which
+-- reasons count.
 unfoldable pub duties : TaskParts → Rules → Plan → List (Duty Reason)
 duties task rules plan = map (λ l. duty (reason.Time l.line) (is_in_time rules l)) plan
     ++ map (λ l. duty (reason.Duration l.line) (has_fit_duration task rules plan l)) plan

@@ -19,7 +19,8 @@ pub fn states_go_by_number()
     ensures { StatesGoByNumber }
 {}
 
-/// Between two adjacent happenings a condition holds at every instant exactly where it holds at both ends: fluents change there at constant rates (Fox and Long 2003).
+/// Between two adjacent happenings a condition holds at every instant exactly where it holds at both ends: fluents
+/// change there at constant rates (Fox and Long 2003).
 pub fn segments_go_by_their_ends()
     ensures { SegmentsGoByTheirEnds }
 {}
@@ -34,12 +35,14 @@ pub fn both_ways_round()
     ensures { BothWaysRound }
 {}
 
-/// The order of a plan's lines and their numbers are free, where no two assignments to one fluent meet, as in each valid plan of a well made task.
+/// The order of a plan's lines and their numbers are free, where no two assignments to one fluent meet, as in each
+/// valid plan of a well made task.
 pub fn lines_in_any_order()
     ensures { LinesInAnyOrder }
 {}
 
-/// Each trajectory constraint, said of the states by their numbers, is what one pass along the states finds; and at most once says that in no three states, in their order, the formula holds, fails and holds (Gerevini and Long 2005).
+/// Each trajectory constraint, said of the states by their numbers, is what one pass along the states finds; and at
+/// most once says that in no three states, in their order, the formula holds, fails and holds (Gerevini and Long 2005).
 pub fn constraints_along_the_trace()
     ensures { ConstraintsAlongTheTrace }
 {}
@@ -49,12 +52,14 @@ pub fn first_states_have_the_first_moments()
     ensures { FirstStatesHaveTheFirstMoments }
 {}
 
-/// What is reckoned step by step ends at the exact value that is meant, so a reckoning that is defined throughout has that value.
+/// What is reckoned step by step ends at the exact value that is meant, so a reckoning that is defined throughout has
+/// that value.
 pub fn reckonings_end_at_the_value()
     ensures { ReckoningsEndAtTheValue }
 {}
 
-/// Times agree with an ordering exactly where its pair links hold, step by later step, and each step has its place in time.
+/// Times agree with an ordering exactly where its pair links hold, step by later step, and each step has its place in
+/// time.
 pub fn agreement_goes_by_pairs()
     ensures { AgreementGoesByPairs }
 {}

@@ -53,9 +53,7 @@ fn put_snap(
     snap: &Snap,
     place: u32,
 ) -> Result<(), NoMemory>
-    ensures {
-        OnOk result (IsPut rows.old.items rows.new.items (related parts.now relation snap.now) place)
-    }
+    ensures { OnOk result (IsPut rows.old.items rows.new.items (related parts.now relation snap.now) place) }
 {
     let numbers = related_numbers(alloc, parts, relation, snap)?;
     put_in_rows(rows, numbers.as_slice(), place)?;
@@ -70,10 +68,8 @@ fn leading_back(
     count: usize,
 ) -> Result<Vec<Items<u32>>, NoMemory>
     requires { length parts.now.snaps < 2 ^ 32 }
-    ensures {
-        IfOk result
-            (λ rows. LeadsBack rows.items count (map (related parts.now relation) parts.now.snaps))
-    }
+    ensures { IfOk result
+        (λ rows. LeadsBack rows.items count (map (related parts.now relation) parts.now.snaps)) }
 {
     let mut rows = empty_rows(alloc, count)?;
     let mut place = 0u32;
