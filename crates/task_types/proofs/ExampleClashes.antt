@@ -1,5 +1,5 @@
 -- Steps that clash or don't, and plans that keep or don't keep them apart.
-use Rattle.std.proofs.Common.{◌≡◌, refl, true, false, [], ◌∷◌, inl, inr}
+use Rattle.std.proofs.Common.{refl, [], ◌∷◌, inl, inr}
 use Rattle.std.specs.Prelude.{pos}
 use Rattle.rational.specs.Gcd.{gcd}
 use Rattle.rational.specs.Rational.{ratio, whole, ◌+ℚ◌, ◌*ℚ◌, neg_ℚ, cmp_ℚ}
@@ -12,6 +12,7 @@ use Rattle.task_types.specs.Cost.{cost}
 use Rattle.task_types.specs.Valid.{duties}
 use Rattle.task_types.specs.Examples.{n, flags, meters, once}
 use Rattle.task_types.specs.ExampleClashes.{ClashesComeOut, ClashingPlansComeOut}
+use Rattle.task_types.proofs.ExampleTasks.{no}
 use Rattle.task_types.proofs.ExamplePlans.{nothing_asked}
 
 pub clashes_come_out : ClashesComeOut
@@ -28,9 +29,6 @@ clashes_come_out = record {
   early_bound_at_start = refl;
   early_bound_at_end = refl;
 }
-
-no : false ≡ true → ⊥
-no e = cc
 
 pub clashing_plans_come_out : ClashingPlansComeOut
 unfolding gcd ratio whole ◌+ℚ◌ ◌*ℚ◌ neg_ℚ cmp_ℚ value holds happenings initial rate moved happen reached before after clash met cost duties

@@ -11,7 +11,7 @@ use Rattle.task_types.specs.Examples.{done}
 use Rattle.task_types.specs.ExampleCosts.{CostsComeOut}
 use Rattle.task_types.proofs.Truths.{tree_holds-is}
 
-done_holds : tree_holds done ≡ literal_holds (record { fact = 0; holds = true })
+pub done_holds : tree_holds done ≡ literal_holds (record { fact = 0; holds = true })
 done_holds = tree_holds-is (record { fact = 0; holds = true })
 
 pub costs_come_out : CostsComeOut

@@ -1,9 +1,9 @@
 -- Small orderings.
-use Rattle.std.proofs.Common.{◌≡◌, refl, ℕ, zero, suc, ◌<◌, ◌≤◌, true, false, arith}
+use Rattle.std.proofs.Common.{refl, ℕ, zero, suc, ◌<◌, ◌≤◌, arith}
 use Rattle.std.specs.Prelude.{pos}
 use Rattle.rational.specs.Gcd.{gcd}
 use Rattle.rational.specs.Rational.{ratio, whole, ◌+ℚ◌, ◌*ℚ◌, neg_ℚ, cmp_ℚ}
-use Rattle.task_types.specs.State.{value, holds, literal_holds, tree_holds}
+use Rattle.task_types.specs.State.{value, holds}
 use Rattle.task_types.specs.Plan.{happenings, action_of}
 use Rattle.task_types.specs.Course.{initial, rate, moved, happen, reached, before, after}
 use Rattle.task_types.specs.Clash.{clash}
@@ -13,15 +13,13 @@ use Rattle.task_types.specs.Touch.{tokens}
 use Rattle.task_types.specs.Order.{is_built, is_closed, link}
 use Rattle.task_types.specs.Blocking.{blocked, block_tests}
 use Rattle.task_types.specs.Agreement.{agree, plan_of, ValidTimes}
-use Rattle.task_types.specs.Examples.{n, rules, pair_watch, done, lasting, once, up_then_down, up_then_down_times, up_then_down_plan, down_then_up_plan}
+use Rattle.task_types.specs.Examples.{n, rules, pair_watch, lasting, once, up_then_down, up_then_down_times, up_then_down_plan, down_then_up_plan}
 use Rattle.task_types.specs.ExampleOrderings.{BuiltOrderingsComeOut, ClosedOrderingsComeOut, TimesComeOut, BlockedOrderingsComeOut}
+use Rattle.task_types.proofs.ExampleTasks.{no}
 use Rattle.task_types.proofs.Comparisons.{lt_out}
 use Rattle.task_types.proofs.ExamplePlans.{nothing_asked}
-use Rattle.task_types.proofs.Truths.{tree_holds-is}
+use Rattle.task_types.proofs.ExampleCosts.{done_holds}
 use Rattle.task_types.proofs.Whole.{over_segments, BothEnds}
-
-no : false ≡ true → ⊥
-no e = cc
 
 pair_watch_over_all : HoldsOverAll pair_watch up_then_down_plan (lasting 0 (n 0) (n 1) 1)
 unfolding gcd ratio whole ◌+ℚ◌ ◌*ℚ◌ neg_ℚ cmp_ℚ value holds happenings initial rate moved happen reached before after
@@ -95,9 +93,6 @@ times_come_out = record {
   gate_plan = refl;
   too_few = refl;
 }
-
-done_holds : tree_holds done ≡ literal_holds (record { fact = 0; holds = true })
-done_holds = tree_holds-is (record { fact = 0; holds = true })
 
 pub blocked_orderings : BlockedOrderingsComeOut
 unfolding gcd ratio whole ◌+ℚ◌ ◌*ℚ◌ neg_ℚ cmp_ℚ initial met blocked block_tests

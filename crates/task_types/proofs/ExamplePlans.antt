@@ -1,5 +1,5 @@
 -- Small plans that are valid, and others with the first reason why they aren't.
-use Rattle.std.proofs.Common.{◌≡◌, refl, sym, subst, true, false, [], ◌∷◌, inl, inr, arith}
+use Rattle.std.proofs.Common.{◌≡◌, refl, sym, subst, true, [], ◌∷◌, inl, inr, arith}
 use Rattle.std.specs.Prelude.{pos, IsTrue}
 use Rattle.rational.specs.Gcd.{gcd}
 use Rattle.rational.specs.Rational.{ratio, whole, ◌+ℚ◌, ◌*ℚ◌, neg_ℚ, cmp_ℚ}
@@ -13,12 +13,10 @@ use Rattle.task_types.specs.Trace.{met}
 use Rattle.task_types.specs.Valid.{HoldsOverAll, HoldsWithin, duties}
 use Rattle.task_types.specs.Examples.{n, always_true, tank, charge, gate, lasting, fill, passing, fact_holds}
 use Rattle.task_types.specs.ExamplePlans.{PlansAreValid, PlansAreRefused, nobody_through, always_open}
+use Rattle.task_types.proofs.ExampleTasks.{no}
 use Rattle.task_types.proofs.Comparisons.{lt_out}
 use Rattle.task_types.proofs.Segment.{segment}
 use Rattle.task_types.proofs.Truths.{tree_holds-is_at}
-
-no : false ≡ true → ⊥
-no e = cc
 
 -- an action without an over-all condition
 pub nothing_asked : (task : TaskParts) (plan : Plan) (l : PlanLine) → (action_of task l.action).over_all ≡ always_true → HoldsOverAll task plan l

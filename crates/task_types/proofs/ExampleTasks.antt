@@ -16,7 +16,8 @@ use Rattle.task_types.specs.WellMade.{tree_fits, parts_fit, soft_fits}
 use Rattle.task_types.specs.Examples.{n, done}
 use Rattle.task_types.specs.ExampleTasks.{plain, TasksAreWellMade, LimitsAreReached, NamesAreRefused, SchemasAreRefused, FactsAndFluentsAreRefused, ActionsAreRefused, SnapsAreRefused, NumbersAreRefused, TimedStepsAreRefused, GoalsAreRefused, TermsAreRefused, PiecesAreRefused, MetricsAreRefused}
 
-no : false ≡ true → ⊥
+-- a test that fails doesn't pass
+pub no : false ≡ true → ⊥
 no e = cc
 
 tree_fits-is : (task : TaskParts) (l : Literal) → tree_fits task (tree.Is l) ≡ nat_lt l.fact (length task.facts)
