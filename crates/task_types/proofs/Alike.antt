@@ -9,7 +9,8 @@ use Rattle.rational.specs.Rational.{ℚ, zeroℚ, ◌+ℚ◌, ◌*ℚ◌, ◌-�
 use Rattle.rational.proofs.Ring.{law, ◌⊕◌, num, ◌≐◌}
 use Rattle.rational.proofs.Field.{ℚ_ring}
 use Rattle.task_types.specs.declared.parts.TaskParts.{TaskParts}
-use Rattle.task_types.specs.Numbers.{◌=?◌, total, last_or_else, is_in, numbers}
+use Rattle.task_types.specs.Tests.{◌=?◌, total, last_or_else}
+use Rattle.task_types.specs.Sets.{is_in, numbers}
 use Rattle.task_types.specs.State.{State}
 use Rattle.task_types.specs.Plan.{Plan, Step, line_steps, plan_steps, timed_steps, steps, happenings}
 use Rattle.task_types.specs.Course.{entries_of, effect_of, amount, assigned, increased, happen, rates_of, runs_between, rate, moved, steps_at, time_of, count, reached, before, after, count_before, state_after, last_state, initial, state}

@@ -2,18 +2,20 @@
 use Rattle.std.proofs.Common.{◌≡◌, refl, sym, ap, subst, ◌∙◌, ℕ, zero, suc, ◌+◌, ◌≤◌, Bool, true, false, cond, not, ◌&&◌, ◌||◌, ◌==◌, List, [], ◌∷◌, ◌++◌, length, map, arith, length-append}
 use Rattle.std.specs.Prelude.{slice_index_or, is_none, nat_le}
 use Rattle.std.specs.List.{list_all, filter, flat_map}
-use Rattle.std.proofs.lemmas.Bool.Decides.{nat_tests}
 use Rattle.std.proofs.lemmas.List.Concat.{flat_map-append}
 use Rattle.std.proofs.lemmas.List.Elements.{filter-append}
 use Rattle.rational.specs.Rational.{ℚ, zeroℚ, ◌+ℚ◌, ◌<ℚ◌}
 use Rattle.rational.proofs.Order.{ℚ_ordered}
 use Rattle.rational.proofs.Ring.{◌⊕◌, num, ◌≺◌}
 use Rattle.rational.proofs.Solve.{linear, ◌⊢◌}
+use Rattle.basics.proofs.Bools.{and_left, and_right, or_left, or_right, or_false_left, or_false_right, not_true}
+use Rattle.basics.proofs.Naturals.{same_out}
 use Rattle.task_types.specs.declared.actions.Snap.{Snap}
 use Rattle.task_types.specs.declared.conditions.Amount.{Amount}
 use Rattle.task_types.specs.declared.parts.Rules.{Rules}
 use Rattle.task_types.specs.declared.parts.TaskParts.{TaskParts}
-use Rattle.task_types.specs.Numbers.{◌≤?◌, ◌=?◌, is_in, meet, are_distinct}
+use Rattle.task_types.specs.Tests.{◌≤?◌, ◌=?◌}
+use Rattle.task_types.specs.Sets.{is_in, meet, are_distinct}
 use Rattle.task_types.specs.Plan.{Plan, Step, snap_of, no_snap, plan_steps, timed_steps, steps}
 use Rattle.task_types.specs.Course.{entries_of, effect_of}
 use Rattle.task_types.specs.Clash.{clash, disturbs, assigned_fluents, written_fluents, increased_fluents, read_facts, changed_facts, read_fluents}
@@ -23,34 +25,8 @@ use Rattle.task_types.specs.Valid.{Valid, are_apart, each_apart, all_apart}
 use Rattle.task_types.specs.WellMade.{IsWellMade, snap_fits, are_timed, is_empty, changes_facts_alone, moments_ascend, is_short, timed_limit, snap_total}
 use Rattle.task_types.specs.Laws.{AssignsOnce}
 use Rattle.task_types.proofs.Comparisons.{eq_out, lt_in}
-use Rattle.task_types.proofs.Everyone.{and_left, and_right}
 
 -- ---- members of lists of numbers
-
-pub same_out : (a b : ℕ) → (a == b) ≡ true → a ≡ b
-same_out a b e = grind (arith, nat_tests)
-
-pub same_in : (a : ℕ) → (a == a) ≡ true
-same_in a = grind (arith, nat_tests)
-
-or_left : (a b : Bool) → a ≡ true → (a || b) ≡ true
-or_left a b e = rw e refl
-
-or_right : (a b : Bool) → b ≡ true → (a || b) ≡ true
-or_right true b e = refl
-or_right false b e = e
-
-or_out_left : (a b : Bool) → (a || b) ≡ false → a ≡ false
-or_out_left true b e = e
-or_out_left false b e = refl
-
-or_out_right : (a b : Bool) → (a || b) ≡ false → b ≡ false
-or_out_right true b e = let c : true ≡ false = e in cc
-or_out_right false b e = e
-
-not_out : (b : Bool) → not b ≡ true → b ≡ false
-not_out true e = sym e
-not_out false e = refl
 
 is_in-left : (x : ℕ) (ys zs : List ℕ) → is_in x ys ≡ true → is_in x (ys ++ zs) ≡ true
 is_in-left x [] zs h = let c : false ≡ true = h in cc
@@ -77,7 +53,7 @@ module _ {A : Type 0} where
 
   pub no_entries : (f : ℕ) (xs : List (ℕ × A)) → is_in f (map (λ e. e.0) xs) ≡ false → entries_of f xs ≡ []
   no_entries f [] h = refl
-  no_entries f (x ∷ xs) h = rw (or_out_left (x.0 == f) (is_in f (map (λ e. e.0) xs)) h) (no_entries f xs (or_out_right (x.0 == f) (is_in f (map (λ e. e.0) xs)) h))
+  no_entries f (x ∷ xs) h = rw (or_false_left (x.0 == f) (is_in f (map (λ e. e.0) xs)) h) (no_entries f xs (or_false_right (x.0 == f) (is_in f (map (λ e. e.0) xs)) h))
 
   pub one_entry : (f : ℕ) (xs : List (ℕ × A)) → are_distinct (map (λ e. e.0) xs) ≡ true → length (entries_of f xs) ≤ 1
   one_entry f [] h = omega arith
@@ -85,7 +61,7 @@ module _ {A : Type 0} where
     where
       go : (b : Bool) → (x.0 == f) ≡ b → length (entries_of f xs) ≤ 1 → length (map (λ (e : ℕ × A). e.1) (cond b (x ∷ filter (λ e. e.0 == f) xs) (filter (λ e. e.0 == f) xs))) ≤ 1
       go false e r = r
-      go true e r = subst (λ (l : List A). suc (length l) ≤ 1) (sym (no_entries f xs (subst (λ g. is_in g (map (λ e. e.0) xs) ≡ false) (same_out x.0 f e) (not_out (is_in x.0 (map (λ e. e.0) xs)) (and_left (not (is_in x.0 (map (λ e. e.0) xs))) (are_distinct (map (λ e. e.0) xs)) h))))) (omega arith)
+      go true e r = subst (λ (l : List A). suc (length l) ≤ 1) (sym (no_entries f xs (subst (λ g. is_in g (map (λ e. e.0) xs) ≡ false) (same_out x.0 f e) (not_true (is_in x.0 (map (λ e. e.0) xs)) (and_left (not (is_in x.0 (map (λ e. e.0) xs))) (are_distinct (map (λ e. e.0) xs)) h))))) (omega arith)
 
 -- ---- steps at one moment
 

@@ -8,7 +8,7 @@ use Rattle.std.proofs.lemmas.List.FromFn.{length-range_with_len, length-enumerat
 use Rattle.task_types.specs.declared.actions.Action.{Action}
 use Rattle.task_types.specs.declared.parts.TaskParts.{TaskParts}
 use Rattle.task_types.specs.declared.tokens.Token.TheVariants as token
-use Rattle.task_types.specs.Numbers.{is_in, are_several, numbers}
+use Rattle.task_types.specs.Sets.{is_in, are_several, numbers}
 use Rattle.task_types.specs.Clash.{form_fluents}
 use Rattle.task_types.specs.Touch.{tokens, comparison_tokens, tracked_fluents, trail_facts, soft_facts}
 use Rattle.task_types.specs.WellMade.{IsWellMade, is_short, action_fits}

@@ -10,7 +10,7 @@ use Rattle.task_types.specs.declared.tokens.Token.{Token}
 use Rattle.task_types.specs.declared.tokens.Token.TheVariants as token
 use Rattle.task_types.specs.declared.tokens.Touch.{Touch}
 use Rattle.task_types.specs.declared.tokens.Touch.TheVariants.{Look, Mark, Bend}
-use Rattle.task_types.specs.Numbers.{is_in, meet}
+use Rattle.task_types.specs.Sets.{is_in, meet}
 use Rattle.task_types.specs.Plan.{snap_of}
 use Rattle.task_types.specs.Related.{related, Tells, IsIndex, AreTouching, found, row_of}
 

@@ -2,9 +2,9 @@
 use Rattle.std.proofs.Common.{◌≡◌, refl, ap, ◌∙◌, suc, Bool, true, false, List, [], ◌∷◌, length, arith}
 use Rattle.std.specs.Prelude.{IsPermutation, if◌then◌else◌}
 use Rattle.rational.specs.Rational.{ℚ, ◌≤ℚ◌}
-use Rattle.rational.proofs.Order.{lt_leℚ, le_antisymmℚ}
-use Rattle.rational.proofs.Inequalities.{le_transℚ}
-use Rattle.task_types.specs.Numbers.{◌≤?◌}
+use Rattle.rational.proofs.Order.{lt_le, le_antisymm}
+use Rattle.rational.proofs.Inequalities.{le_trans}
+use Rattle.task_types.specs.Tests.{◌≤?◌}
 use Rattle.task_types.specs.Cost.{greater, greatest}
 use Rattle.task_types.proofs.Comparisons.{le_out, later_out, eq_le}
 use Rattle.task_types.proofs.Reordering.{reordered}
@@ -24,7 +24,7 @@ second_le q r = go (q ≤? r) refl
   where
     go : (b : Bool) → (q ≤? r) ≡ b → r ≤ℚ (if b then r else q)
     go true e = le_refl r
-    go false e = lt_leℚ r q (later_out q r e)
+    go false e = lt_le r q (later_out q r e)
 
 greater_le : (q r m : ℚ) → q ≤ℚ m → r ≤ℚ m → greater q r ≤ℚ m
 greater_le q r m h k = go (q ≤? r)
@@ -35,14 +35,14 @@ greater_le q r m h k = go (q ≤? r)
 
 crossed_le : (x y g : ℚ) → greater x (greater y g) ≤ℚ greater y (greater x g)
 crossed_le x y g = greater_le x (greater y g) (greater y (greater x g))
-    (le_transℚ x (greater x g) (greater y (greater x g)) (first_le x g) (second_le y (greater x g)))
-    (greater_le y g (greater y (greater x g)) (first_le y (greater x g)) (le_transℚ g (greater x g) (greater y (greater x g)) (second_le x g) (second_le y (greater x g))))
+    (le_trans x (greater x g) (greater y (greater x g)) (first_le x g) (second_le y (greater x g)))
+    (greater_le y g (greater y (greater x g)) (first_le y (greater x g)) (le_trans g (greater x g) (greater y (greater x g)) (second_le x g) (second_le y (greater x g))))
 
 greater_crossed : (x y g : ℚ) → greater x (greater y g) ≡ greater y (greater x g)
-greater_crossed x y g = le_antisymmℚ (greater x (greater y g)) (greater y (greater x g)) (crossed_le x y g) (crossed_le y x g)
+greater_crossed x y g = le_antisymm (greater x (greater y g)) (greater y (greater x g)) (crossed_le x y g) (crossed_le y x g)
 
 greater_comm : (x y : ℚ) → greater x y ≡ greater y x
-greater_comm x y = le_antisymmℚ (greater x y) (greater y x) (greater_le x y (greater y x) (second_le y x) (first_le y x)) (greater_le y x (greater x y) (second_le x y) (first_le x y))
+greater_comm x y = le_antisymm (greater x y) (greater y x) (greater_le x y (greater y x) (second_le y x) (first_le y x)) (greater_le y x (greater x y) (second_le x y) (first_le x y))
 
 greatest_crossed : (x y : ℚ) (zs : List ℚ) → greatest (x ∷ y ∷ zs) ≡ greatest (y ∷ x ∷ zs)
 greatest_crossed x y [] = greater_comm x y

@@ -6,12 +6,12 @@ use Rattle.std.specs.declared.cmp.Ordering.{Ordering}
 use Rattle.std.specs.declared.cmp.Ordering.TheVariants.{Less, Equal, Greater}
 use Rattle.std.specs.Ordering.{MatchOrdering}
 use Rattle.rational.specs.Rational.{ℚ, cmp_ℚ, ◌<ℚ◌}
-use Rattle.rational.proofs.Compare.{ranksℚ}
-use Rattle.rational.proofs.Order.{lt_irreflℚ}
+use Rattle.rational.proofs.Comparisons.{cmp_ranks}
+use Rattle.rational.proofs.Order.{lt_irrefl}
 use Rattle.task_types.specs.declared.parts.TaskParts.{TaskParts}
 use Rattle.task_types.specs.Plan.{Plan, steps, ascending, in_place, beside, happenings}
 use Rattle.task_types.specs.Laws.{Ascends, HasTimes, OneListOfHappenings}
-use Rattle.rational.proofs.Inequalities.{lt_transℚ}
+use Rattle.rational.proofs.Inequalities.{lt_trans}
 use Rattle.task_types.proofs.Instants.{ascending-Ascends}
 
 -- x is one of the list
@@ -48,7 +48,7 @@ placed-among x t (u ∷ us) h = go (cmp_ℚ t u) (placed-among x t us) h
 
 among-placed : (x t : ℚ) (us : List ℚ) → (x ≡ t) ⊎ Among x us → Among x (in_place t us)
 among-placed x t [] h = h
-among-placed x t (u ∷ us) h = go (cmp_ℚ t u) (ranksℚ t u) (among-placed x t us) h
+among-placed x t (u ∷ us) h = go (cmp_ℚ t u) (cmp_ranks t u) (among-placed x t us) h
   where
     go : (o : Ordering) → MatchOrdering o (t <ℚ u) (t ≡ u) (u <ℚ t) → ((x ≡ t) ⊎ Among x us → Among x (in_place t us)) → (x ≡ t) ⊎ Among x (u ∷ us) → Among x (beside o t u us (in_place t us))
     go Less m r h = h
@@ -77,7 +77,7 @@ below_each t x (u ∷ us) a (inr h) = below_each t x us a.1 h
 heads_agree : (t u : ℚ) (ts us : List ℚ) → AllByRecursion (λ v. t <ℚ v) ts → AllByRecursion (λ v. u <ℚ v) us → Among t (u ∷ us) → Among u (t ∷ ts) → t ≡ u
 heads_agree t u ts us a b (inl e) k = e
 heads_agree t u ts us a b (inr h) (inl e) = sym e
-heads_agree t u ts us a b (inr h) (inr k) = absurd (lt_irreflℚ t (lt_transℚ t u t (below_each t u ts a k) (below_each u t us b h)))
+heads_agree t u ts us a b (inr h) (inr k) = absurd (lt_irrefl t (lt_trans t u t (below_each t u ts a k) (below_each u t us b h)))
 
 pub one_ascending : (ts us : List ℚ) → Ascends ts → Ascends us → ((x : ℚ) → Among x ts → Among x us) → ((x : ℚ) → Among x us → Among x ts) → ts ≡ us
 one_ascending [] [] a b f g = refl
@@ -87,7 +87,7 @@ one_ascending (t ∷ ts) (u ∷ us) a b f g = joined (heads_agree t u ts us a.0 
     (λ e. one_ascending ts us a.1 b.1 (λ x h. later t u x us e (below_each t x ts a.0 h) (f x (inr h))) (λ x h. later u t x ts (sym e) (below_each u x us b.0 h) (g x (inr h))))
   where
     later : (t u x : ℚ) (us : List ℚ) → t ≡ u → t <ℚ x → Among x (u ∷ us) → Among x us
-    later t u x us e l (inl d) = absurd (lt_irreflℚ x (subst (λ y. y <ℚ x) (e ∙ sym d) l))
+    later t u x us e l (inl d) = absurd (lt_irrefl x (subst (λ y. y <ℚ x) (e ∙ sym d) l))
     later t u x us e l (inr h) = h
 
     joined : t ≡ u → (t ≡ u → ts ≡ us) → (t ∷ ts) ≡ (u ∷ us)

@@ -7,17 +7,17 @@ use Rattle.std.specs.declared.cmp.Ordering.TheVariants.{Less, Equal, Greater}
 use Rattle.std.specs.Ordering.{MatchOrdering}
 use Rattle.rational.specs.Rational.{ℚ, cmp_ℚ, ◌≤ℚ◌, ◌<ℚ◌}
 use Rattle.rational.specs.Rational.{zeroℚ}
-use Rattle.rational.proofs.Compare.{ranksℚ}
+use Rattle.rational.proofs.Comparisons.{cmp_ranks}
 use Rattle.task_types.specs.declared.parts.TaskParts.{TaskParts}
 use Rattle.task_types.specs.Plan.{Plan, steps, ascending, in_place, beside, happenings}
 use Rattle.task_types.specs.Course.{reached, before, moved, time_of, state_after, count, count_before}
 use Rattle.task_types.specs.Laws.{Ascends}
-use Rattle.rational.proofs.Inequalities.{lt_transℚ}
+use Rattle.rational.proofs.Inequalities.{lt_trans}
 use Rattle.task_types.proofs.Comparisons.{lt_in, not_lt_in}
 
 all_below : (t u : ℚ) (ts : List ℚ) → t <ℚ u → AllByRecursion (λ v. u <ℚ v) ts → AllByRecursion (λ v. t <ℚ v) ts
 all_below t u [] h a = tt
-all_below t u (v ∷ vs) h a = (lt_transℚ t u v h a.0, all_below t u vs h a.1)
+all_below t u (v ∷ vs) h a = (lt_trans t u v h a.0, all_below t u vs h a.1)
 
 below_in_place : (t u : ℚ) (us : List ℚ) → t <ℚ u → AllByRecursion (λ v. t <ℚ v) us → AllByRecursion (λ v. t <ℚ v) (in_place u us)
 below_in_place t u [] h a = (h, tt)
@@ -30,7 +30,7 @@ below_in_place t u (v ∷ vs) h a = go (cmp_ℚ u v) (below_in_place t u vs h a.
 
 in_place-Ascends : (t : ℚ) (us : List ℚ) → Ascends us → Ascends (in_place t us)
 in_place-Ascends t [] a = (tt, tt)
-in_place-Ascends t (u ∷ us) a = go (cmp_ℚ t u) (ranksℚ t u) (in_place-Ascends t us a.1)
+in_place-Ascends t (u ∷ us) a = go (cmp_ℚ t u) (cmp_ranks t u) (in_place-Ascends t us a.1)
   where
     go : (o : Ordering) → MatchOrdering o (t <ℚ u) (t ≡ u) (u <ℚ t) → Ascends (in_place t us) → Ascends (beside o t u us (in_place t us))
     go Less m r = ((m, all_below t u us m a.0), a)
@@ -56,7 +56,7 @@ pub count_before_is : (ts : List ℚ) (k : ℕ) (t : ℚ) → Ascends ts → k <
 count_before_is [] k t a h l m = absurd (omega arith)
 count_before_is (u ∷ us) zero t a h l m = ap (λ b. cond b (suc (count_before t us)) zero) (lt_in u t l) ∙ ap suc (none_before t us (λ n. m (omega arith)))
 count_before_is (u ∷ us) (suc k) t a h l m =
-    ap (λ b. cond b (suc (count_before t us)) zero) (lt_in u t (lt_transℚ u (slice_index_or us k zeroℚ) t (first k us a.0 (omega arith)) l))
+    ap (λ b. cond b (suc (count_before t us)) zero) (lt_in u t (lt_trans u (slice_index_or us k zeroℚ) t (first k us a.0 (omega arith)) l))
     ∙ ap suc (count_before_is us k t a.1 (omega arith) l (λ n. m (omega arith)))
   where
     first : (k : ℕ) (us : List ℚ) → AllByRecursion (λ v. u <ℚ v) us → k < length us → u <ℚ slice_index_or us k zeroℚ

@@ -9,7 +9,7 @@ use Rattle.task_types.specs.declared.tokens.Token.{Token}
 use Rattle.task_types.specs.declared.tokens.Touch.{Touch}
 use Rattle.task_types.specs.declared.touches.index.Index.{Index}
 use Rattle.task_types.specs.declared.tokens.Touch.TheVariants.{Look, Mark, Bend}
-use Rattle.task_types.specs.Numbers.{is_in}
+use Rattle.task_types.specs.Sets.{is_in}
 use Rattle.task_types.specs.Related.{is_last, same_touch, put_last, put_where, found, ArePut, IsPutInAll}
 
 pub last_is : (n : ℕ) (t : Touch) (row : List (ℕ × Touch)) (x : ℕ × Touch) → Some x ≡ slice_get row (length row - 1) → is_last n t row ≡ ((x.0 == n) && same_touch x.1 t)

@@ -5,7 +5,7 @@ use Rattle.std.proofs.lemmas.List.{length-set, get_or-set_same, get_or-set_other
 use Rattle.std.proofs.lemmas.List.Folds.{list_any-append}
 use Rattle.std.proofs.lemmas.Bool.{eqb-true}
 use Rattle.std.proofs.lemmas.Bool.Decides.{nat_tests}
-use Rattle.task_types.specs.Numbers.{is_in}
+use Rattle.task_types.specs.Sets.{is_in}
 use Rattle.task_types.specs.Related.{IsPut, LeadsBack}
 
 same-zero-suc : (s : ℕ) → (0 == suc s) ≡ false

@@ -7,9 +7,13 @@ pub mod Alike
 pub mod Greatest
 pub mod Unordered
 pub mod Assigning
+pub mod Formed
 pub mod Lines
 pub mod Segment
 pub mod Whole
+pub mod ByNumber
+pub mod Pairs
+pub mod SetApart
 pub mod Links
 pub mod Reasons
 pub mod Traces
@@ -17,6 +21,12 @@ pub mod Truths
 pub mod Sayings
 pub mod Values
 pub mod ExampleTasks
+pub mod ExampleStates
+pub mod ExamplePlans
+pub mod ExampleClashes
+pub mod ExampleCosts
+pub mod ExampleOrderings
+pub mod ExampleTouches
 pub mod Shown
 pub mod LeadingBack
 pub mod FormulaFacts

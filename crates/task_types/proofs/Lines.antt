@@ -2,7 +2,7 @@
 use Rattle.std.proofs.Common.{◌≡◌, refl, sym, subst, [], ◌∷◌}
 use Rattle.rational.specs.Rational.{ℚ, zeroℚ, ◌+ℚ◌, ◌*ℚ◌, ◌-ℚ◌, ◌≤ℚ◌, ◌<ℚ◌}
 use Rattle.rational.specs.Segment.{along, NonnegBetween}
-use Rattle.rational.proofs.Between.{between as nonneg_between, ends_from_between}
+use Rattle.rational.proofs.Segments.{between as nonneg_between, ends_from_between}
 use Rattle.rational.proofs.Field.{ℚ_ring}
 use Rattle.rational.proofs.Ring.{law, ◌⊕◌, ◌⊗◌, ◌⊖◌, ◌≐◌}
 

@@ -6,7 +6,7 @@ use Rattle.std.proofs.lemmas.List.{append-nil, map-append, map-id, take_more}
 use Rattle.std.proofs.lemmas.List.FromFn.{map-range_with_len_more}
 use Rattle.std.proofs.lemmas.List.Concat.{flat_map-append}
 use Rattle.std.proofs.lemmas.List.Elements.{filter-append}
-use Rattle.task_types.specs.Numbers.{numbers, is_in}
+use Rattle.task_types.specs.Sets.{numbers, is_in}
 use Rattle.task_types.specs.Related.{IsFlags}
 
 pub numbers-more : (i : ℕ) → numbers (i + 1) ≡ numbers i ++ i ∷ []

@@ -8,22 +8,25 @@ use Rattle.std.specs.Ordering.{MatchOrdering}
 use native.Mathlib.Decide.{dec_lt}
 use Rattle.rational.specs.Rational.{ℚ, cmp_ℚ, ◌≤ℚ◌, ◌<ℚ◌}
 use Rattle.rational.specs.Rational.{zeroℚ}
-use Rattle.rational.proofs.Compare.{ranksℚ}
-use Rattle.rational.proofs.Order.{lt_leℚ}
+use Rattle.rational.proofs.Comparisons.{cmp_ranks}
+use Rattle.rational.proofs.Order.{lt_le}
+use Rattle.basics.proofs.Bools.{and_left, and_right, and_in}
+use Rattle.basics.proofs.Lists.{each_left}
+use Rattle.basics.specs.Duties.{Duty, AllMet}
+use Rattle.task_types.specs.declared.plans.Reason.{Reason}
 use Rattle.task_types.specs.declared.parts.TaskParts.{TaskParts}
 use Rattle.task_types.specs.declared.plans.PlanLine.{PlanLine}
-use Rattle.task_types.specs.Numbers.{◌≤?◌}
+use Rattle.task_types.specs.Tests.{◌≤?◌}
 use Rattle.task_types.specs.Plan.{Plan, IsFormed, action_of, end_of, line_steps, timed_steps, steps, ascending, in_place, beside, happenings}
 use Rattle.task_types.specs.Course.{time_of}
-use Rattle.task_types.specs.Valid.{HoldsWithin, HoldsOverAll, Duty, segments, line_over_alls}
-use Rattle.rational.proofs.Inequalities.{lt_transℚ, lt_le_transℚ, le_lt_transℚ}
+use Rattle.task_types.specs.Valid.{HoldsWithin, HoldsOverAll, segments, line_over_alls}
+use Rattle.rational.proofs.Inequalities.{lt_trans, lt_le_trans, le_lt_trans}
 use Rattle.task_types.proofs.Comparisons.{le_in, le_out, eq_le, lt_le_absurd}
-use Rattle.task_types.proofs.Everyone.{and_left, and_right, and_in, all_map, all_both, all_of_map, all_of_flat_map, all_left}
+use Rattle.task_types.proofs.Everyone.{all_map, all_both, all_of_map, all_of_flat_map}
 use Rattle.task_types.specs.Laws.{Ascends}
 use Rattle.task_types.proofs.Instants.{happenings-Ascends}
 use Rattle.task_types.proofs.Segment.{segment, ends_outside, below_later}
 use Rattle.task_types.proofs.Whole.{over_segments}
-use Rattle.task_types.proofs.Links.{EachMet}
 
 -- ---- each step's time is a happening
 
@@ -44,7 +47,7 @@ themselves (t ∷ ts) = ((0, omega arith, refl), all_map (λ x. Has x ts) (λ x.
 
 in_place-new : (t : ℚ) (us : List ℚ) → Has t (in_place t us)
 in_place-new t [] = (0, omega arith, refl)
-in_place-new t (u ∷ us) = go (cmp_ℚ t u) (ranksℚ t u) (in_place-new t us)
+in_place-new t (u ∷ us) = go (cmp_ℚ t u) (cmp_ranks t u) (in_place-new t us)
   where
     go : (o : Ordering) → MatchOrdering o (t <ℚ u) (t ≡ u) (u <ℚ t) → Has t (in_place t us) → Has t (beside o t u us (in_place t us))
     go Less m r = (0, omega arith, refl)
@@ -77,32 +80,32 @@ steps-happen task plan = all_of_map (λ x. Has x (happenings task plan)) (λ s. 
 no_earlier : (ts : List ℚ) (i j : ℕ) → Ascends ts → i ≤ j → j < length ts → slice_index_or ts i zeroℚ ≤ℚ slice_index_or ts j zeroℚ
 no_earlier [] i j a h l = absurd (omega arith)
 no_earlier (t ∷ ts) zero zero a h l = eq_le t t refl
-no_earlier (t ∷ ts) zero (suc j) a h l = lt_leℚ t (slice_index_or ts j zeroℚ) (below_later t j ts a.0 (omega arith))
+no_earlier (t ∷ ts) zero (suc j) a h l = lt_le t (slice_index_or ts j zeroℚ) (below_later t j ts a.0 (omega arith))
 no_earlier (t ∷ ts) (suc i) zero a h l = absurd (omega arith)
 no_earlier (t ∷ ts) (suc i) (suc j) a h l = no_earlier ts i j a.1 (omega arith) (omega arith)
 
 -- ---- segments
 
-segment_met : (d : ℚ × ℚ → Duty) (ts : List ℚ) (k : ℕ) → EachMet (map d (segments ts)) → suc k < length ts → (d (slice_index_or ts k zeroℚ, slice_index_or ts (suc k) zeroℚ)).Met
+segment_met : (d : ℚ × ℚ → Duty Reason) (ts : List ℚ) (k : ℕ) → AllMet (map d (segments ts)) → suc k < length ts → (d (slice_index_or ts k zeroℚ, slice_index_or ts (suc k) zeroℚ)).Met
 segment_met d [] k m h = absurd (omega arith)
 segment_met d (t ∷ []) k m h = absurd (omega arith)
 segment_met d (t ∷ u ∷ us) zero m h = m.0
 segment_met d (t ∷ u ∷ us) (suc k) m h = segment_met d (u ∷ us) k m.1 (omega arith)
 
-each_met : (d : ℚ × ℚ → Duty) (gs : List (ℚ × ℚ)) → ((g : ℚ × ℚ) → (d g).Met) → EachMet (map d gs)
+each_met : (d : ℚ × ℚ → Duty Reason) (gs : List (ℚ × ℚ)) → ((g : ℚ × ℚ) → (d g).Met) → AllMet (map d gs)
 each_met d [] f = tt
 each_met d (g ∷ gs) f = (f g, each_met d gs f)
 
 -- what holds over a line holds on each of its segments
-pub over_all-segments : (task : TaskParts) (plan : Plan) (l : PlanLine) → HoldsOverAll task plan l → EachMet (line_over_alls task plan l)
-over_all-segments task plan l f = each_met _ (segments (happenings task plan)) (λ g w t h k. f t (le_lt_transℚ l.at g.0 t (le_out l.at g.0 (and_left (l.at ≤? g.0) (g.1 ≤? end_of l) w)) h) (lt_le_transℚ t g.1 (end_of l) k (le_out g.1 (end_of l) (and_right (l.at ≤? g.0) (g.1 ≤? end_of l) w))))
+pub over_all-segments : (task : TaskParts) (plan : Plan) (l : PlanLine) → HoldsOverAll task plan l → AllMet (line_over_alls task plan l)
+over_all-segments task plan l f = each_met _ (segments (happenings task plan)) (λ g w t h k. f t (le_lt_trans l.at g.0 t (le_out l.at g.0 (and_left (l.at ≤? g.0) (g.1 ≤? end_of l) w)) h) (lt_le_trans t g.1 (end_of l) k (le_out g.1 (end_of l) (and_right (l.at ≤? g.0) (g.1 ≤? end_of l) w))))
 
 within_moved : (task : TaskParts) (plan : Plan) (l : PlanLine) (from to : ℚ) → from ≡ l.at → to ≡ end_of l → HoldsWithin task plan (action_of task l.action).over_all from to → HoldsOverAll task plan l
 within_moved task plan l from to e f w t h k = w t (subst (λ x. x <ℚ t) (sym e) h) (subst (λ x. t <ℚ x) (sym f) k)
 
 -- what holds on each segment of a line holds over the line
-segments_over_all : (task : TaskParts) (plan : Plan) (l : PlanLine) → AllByRecursion (IsFormed task) plan → EachMet (line_over_alls task plan l) → Has l.at (happenings task plan) → Has (end_of l) (happenings task plan) → HoldsOverAll task plan l
-segments_over_all task plan l formed m s e t h k = elim (dec_lt s.0 e.0) [ yes b ↦ forwards b t h k | no b ↦ absurd (lt_le_absurd l.at (end_of l) (lt_transℚ l.at t (end_of l) h k) (backwards b)) ]
+segments_over_all : (task : TaskParts) (plan : Plan) (l : PlanLine) → IsFormed task plan → AllMet (line_over_alls task plan l) → Has l.at (happenings task plan) → Has (end_of l) (happenings task plan) → HoldsOverAll task plan l
+segments_over_all task plan l formed m s e t h k = elim (dec_lt s.0 e.0) [ yes b ↦ forwards b t h k | no b ↦ absurd (lt_le_absurd l.at (end_of l) (lt_trans l.at t (end_of l) h k) (backwards b)) ]
   where
     backwards : (s.0 < e.0 → ⊥) → end_of l ≤ℚ l.at
     backwards b = subst (λ x. x ≤ℚ l.at) e.2 (subst (λ x. slice_index_or (happenings task plan) e.0 zeroℚ ≤ℚ x) s.2 (no_earlier (happenings task plan) e.0 s.0 (happenings-Ascends task plan) (omega arith) s.1))
@@ -119,11 +122,11 @@ segments_over_all task plan l formed m s e t h k = elim (dec_lt s.0 e.0) [ yes b
 
 starts_happen : (task : TaskParts) (plan : Plan) → AllByRecursion (λ l. Has l.at (happenings task plan)) plan
 starts_happen task plan = all_map (λ l. AllByRecursion (λ s. Has s.time (happenings task plan)) (line_steps task l)) (λ l. Has l.at (happenings task plan)) plan (λ l h. h.0)
-    (all_of_flat_map (λ s. Has s.time (happenings task plan)) (line_steps task) plan (all_left (λ s. Has s.time (happenings task plan)) (flat_map (line_steps task) plan) (timed_steps task) (steps-happen task plan)))
+    (all_of_flat_map (λ s. Has s.time (happenings task plan)) (line_steps task) plan (each_left (λ s. Has s.time (happenings task plan)) (flat_map (line_steps task) plan) (timed_steps task) (steps-happen task plan)))
 
 -- over the lines of a plan: every instant, or every segment
-pub every_instant-every_segment : (task : TaskParts) (plan : Plan) → AllByRecursion (IsFormed task) plan → AllByRecursion (λ l. EachMet (line_over_alls task plan l)) plan → AllByRecursion (HoldsOverAll task plan) plan
-every_instant-every_segment task plan formed m = all_both (λ l. EachMet (line_over_alls task plan l)) (λ l. Has l.at (happenings task plan) × Has (end_of l) (happenings task plan)) (HoldsOverAll task plan) plan
+pub every_instant-every_segment : (task : TaskParts) (plan : Plan) → IsFormed task plan → AllByRecursion (λ l. AllMet (line_over_alls task plan l)) plan → AllByRecursion (HoldsOverAll task plan) plan
+every_instant-every_segment task plan formed m = all_both (λ l. AllMet (line_over_alls task plan l)) (λ l. Has l.at (happenings task plan) × Has (end_of l) (happenings task plan)) (HoldsOverAll task plan) plan
     (λ l a b. segments_over_all task plan l formed a b.0 b.1) m
     (all_both (λ l. Has l.at (happenings task plan)) (λ l. Has (end_of l) (happenings task plan)) (λ l. Has l.at (happenings task plan) × Has (end_of l) (happenings task plan)) plan (λ l a b. (a, b)) (starts_happen task plan)
     (ends_outside task plan (λ x. Has x (happenings task plan)) formed (steps-happen task plan)))

@@ -16,7 +16,7 @@ use Rattle.task_types.specs.declared.conditions.Condition.{Condition}
 use Rattle.task_types.specs.declared.parts.TaskParts.{TaskParts}
 use Rattle.task_types.specs.declared.touches.relations.Relation.{Relation}
 use Rattle.task_types.specs.declared.touches.relations.Relation.TheVariants.{LookedFacts, ChangedFacts, LookedFluents, WrittenFluents, BentFluents, OwnAction}
-use Rattle.task_types.specs.Numbers.{is_in}
+use Rattle.task_types.specs.Sets.{is_in}
 use Rattle.task_types.specs.Plan.{action_of, snap_of, no_action, no_snap}
 use Rattle.task_types.specs.Clash.{form_fluents, condition_facts, condition_fluents, is_read_at, own_action, read_bounds, read_fluents, assigned_fluents}
 use Rattle.task_types.specs.Touch.{is_start_or_end, started_or_ended, watches}

@@ -6,7 +6,7 @@ use Rattle.std.proofs.lemmas.List.Sorted.{IsPermutation-keeps, IsPermutation-ref
 use Rattle.rational.specs.Rational.{ℚ, ◌+ℚ◌}
 use Rattle.rational.proofs.Ring.{law, ◌⊕◌, ◌≐◌}
 use Rattle.rational.proofs.Field.{ℚ_ring}
-use Rattle.task_types.specs.Numbers.{total}
+use Rattle.task_types.specs.Tests.{total}
 
 -- a relation that any reordering keeps, since it is kept under a first element and where the first two change places
 module _ {X : Type 0} (R : List X → List X → Type 0)

@@ -7,7 +7,7 @@ use Rattle.std.proofs.lemmas.List.{length-map}
 use Rattle.std.proofs.lemmas.Bool.Decides.{nat_tests}
 use Rattle.task_types.specs.declared.constraints.TrailKind.{TrailKind}
 use Rattle.task_types.specs.declared.constraints.TrailKind.TheVariants.{Always, Sometime, Within, AtMostOnce, SometimeAfter, SometimeBefore, AtEnd}
-use Rattle.task_types.specs.Numbers.{◌≤?◌, every, some, ◌⇒◌}
+use Rattle.task_types.specs.Tests.{◌≤?◌, every, some, ◌⇒◌}
 use Rattle.task_types.specs.State.{tree_holds}
 use Rattle.task_types.specs.Trace.{Trace, Moment, at, kept, met}
 use Rattle.task_types.specs.Laws.{none_later, run_ends, one_run, are_answered, are_prepared, ends_with, kept_along, NoGap, ConstraintsAlongTheTrace}

@@ -1,29 +1,31 @@
 -- A condition holds at every instant strictly between two adjacent happenings exactly where it holds at both ends.
 use Rattle.std.proofs.Common.{◌≡◌, refl, sym, ap, subst, ◌∙◌, ℕ, zero, suc, ◌<◌, Bool, true, false, ◌&&◌, List, [], ◌∷◌, length, map, arith, inl, inr, Option, Some, None}
-use Rattle.std.specs.Prelude.{slice_index_or, ◌⊎◌, ◌↔◌, IsTrue, MatchOption, IsSome, unwrap_or, not}
+use Rattle.std.specs.Prelude.{slice_index_or, ◌⊎◌, ◌↔◌, IsTrue, if◌then◌else◌, is_some, is_none, unwrap_or, not}
 use Rattle.std.specs.List.{AllByRecursion, list_all, filter, flat_map}
 use Rattle.std.specs.declared.cmp.Ordering.{Ordering}
 use Rattle.std.specs.declared.cmp.Ordering.TheVariants.{Less, Equal, Greater}
 use Rattle.std.specs.Ordering.{MatchOrdering}
 use Rattle.rational.specs.Rational.{ℚ, ◌+ℚ◌, ◌*ℚ◌, ◌-ℚ◌, cmp_ℚ, ◌≤ℚ◌, ◌<ℚ◌}
 use Rattle.rational.specs.Rational.{zeroℚ}
-use Rattle.rational.proofs.Compare.{ranksℚ}
-use Rattle.rational.proofs.Order.{lt_leℚ}
+use Rattle.rational.proofs.Comparisons.{cmp_ranks}
+use Rattle.rational.proofs.Order.{lt_le}
 use Rattle.rational.specs.Segment.{halfway}
-use Rattle.rational.proofs.Inequalities.{below_halfway, halfway_below, le_transℚ, lt_le_transℚ, le_lt_transℚ}
+use Rattle.rational.proofs.Inequalities.{below_halfway, halfway_below, le_trans, lt_le_trans, le_lt_trans}
 use Rattle.exact_lin.specs.Forms.{LinearForm, terms_at}
 use Rattle.rational.proofs.Ring.{law, ◌⊕◌, ◌⊗◌, num, ◌≐◌}
 use Rattle.rational.proofs.Field.{ℚ_ring}
+use Rattle.basics.proofs.Bools.{and_left, and_right, and_in}
+use Rattle.basics.proofs.Lists.{all_out, all_in, each_left}
 use Rattle.task_types.specs.declared.parts.TaskParts.{TaskParts}
 use Rattle.task_types.specs.declared.conditions.Condition.{Condition}
 use Rattle.task_types.specs.declared.plans.PlanLine.{PlanLine}
-use Rattle.task_types.specs.Numbers.{◌<?◌, ◌≤?◌, ◌=?◌, total}
+use Rattle.task_types.specs.Tests.{◌<?◌, ◌≤?◌, ◌=?◌, total}
 use Rattle.task_types.specs.State.{State, value, literal_holds, comparison_holds, holds}
-use Rattle.task_types.specs.Plan.{Plan, IsFormed, runs_at, action_of, end_of, end_step, line_steps, timed_steps, steps, ascending, in_place, beside, happenings}
+use Rattle.task_types.specs.Plan.{Plan, IsFormed, is_formed, runs_at, action_of, end_of, end_step, line_steps, timed_steps, steps, ascending, in_place, beside, happenings}
 use Rattle.task_types.specs.Course.{runs_between, rates_of, rate, moved, happen, reached, before, after, time_of, steps_at, state_after, state_before, count}
 use Rattle.task_types.specs.Valid.{HoldsWithin}
 use Rattle.task_types.proofs.Comparisons.{lt_in, lt_out, le_in, le_out, eq_le, eq_out, lt_le_absurd}
-use Rattle.task_types.proofs.Everyone.{and_left, and_right, and_in, all_out, all_in, all_map, all_both, all_swap, all_under, all_of_map, all_of_flat_map, all_left, filter_same, filter_none}
+use Rattle.task_types.proofs.Everyone.{all_map, all_both, all_swap, all_under, all_of_map, all_of_flat_map, filter_same, filter_none}
 use Rattle.task_types.specs.Laws.{Ascends}
 use Rattle.task_types.proofs.Instants.{happenings-Ascends, before-between}
 use Rattle.task_types.proofs.Lines.{grown, HoldsInside, between, at_from, at_to}
@@ -50,7 +52,7 @@ abbrev pub Outside : ℚ → ℚ → ℚ → Type 0
 Outside from to x = (x ≤ℚ from) ⊎ (to ≤ℚ x)
 
 first_outside : (u v : ℚ) (vs : List ℚ) → u <ℚ v → AllByRecursion (λ w. v <ℚ w) vs → AllByRecursion (Outside u v) (u ∷ v ∷ vs)
-first_outside u v vs h a = (inl (eq_le u u refl), (inr (eq_le v v refl), all_map (λ w. v <ℚ w) (Outside u v) vs (λ w l. inr (lt_leℚ v w l)) a))
+first_outside u v vs h a = (inl (eq_le u u refl), (inr (eq_le v v refl), all_map (λ w. v <ℚ w) (Outside u v) vs (λ w l. inr (lt_le v w l)) a))
 
 pub below_later : (u : ℚ) (k : ℕ) (us : List ℚ) → AllByRecursion (λ v. u <ℚ v) us → k < length us → u <ℚ slice_index_or us k zeroℚ
 below_later u k [] a h = absurd (omega arith)
@@ -61,11 +63,11 @@ all_outside : (ts : List ℚ) (k : ℕ) → Ascends ts → suc k < length ts →
 all_outside [] k a h = absurd (omega arith)
 all_outside (u ∷ []) k a h = absurd (omega arith)
 all_outside (u ∷ v ∷ vs) zero a h = first_outside u v vs a.0.0 a.1.0
-all_outside (u ∷ v ∷ vs) (suc k) a h = (inl (lt_leℚ u (slice_index_or (v ∷ vs) k zeroℚ) (below_later u k (v ∷ vs) a.0 (omega arith))), all_outside (v ∷ vs) k a.1 (omega arith))
+all_outside (u ∷ v ∷ vs) (suc k) a h = (inl (lt_le u (slice_index_or (v ∷ vs) k zeroℚ) (below_later u k (v ∷ vs) a.0 (omega arith))), all_outside (v ∷ vs) k a.1 (omega arith))
 
 in_place-all : (P : ℚ → Type 0) (t : ℚ) (us : List ℚ) → AllByRecursion P (in_place t us) → P t × AllByRecursion P us
 in_place-all P t [] h = (h.0, tt)
-in_place-all P t (u ∷ us) h = go (cmp_ℚ t u) (ranksℚ t u) (in_place-all P t us) h
+in_place-all P t (u ∷ us) h = go (cmp_ℚ t u) (cmp_ranks t u) (in_place-all P t us) h
   where
     go : (o : Ordering) → MatchOrdering o (t <ℚ u) (t ≡ u) (u <ℚ t) → (AllByRecursion P (in_place t us) → P t × AllByRecursion P us) → AllByRecursion P (beside o t u us (in_place t us)) → P t × AllByRecursion P (u ∷ us)
     go Less m r h = (h.0, h.1)
@@ -85,17 +87,21 @@ pub end_is_at : (l : PlanLine) → l.duration ≡ None → l.at ≡ end_of l
 end_is_at l e = law ℚ_ring (l.at ∷ l.at ∷ []) (λ a b. (a) ≐ (a ⊕ num 0)) refl ∙ ap (λ d. l.at +ℚ unwrap_or d zeroℚ) (sym e)
 
 -- the end of a line is the time of one of its steps
-end_among : (P : ℚ → Type 0) (l : PlanLine) (e : Option ℕ) → MatchOption e (l.duration ≡ None) (λ _. IsSome l.duration) → P l.at → AllByRecursion (λ s. P s.time) (end_step l e) → P (end_of l)
-end_among P l None f p h = subst P (end_is_at l f) p
+end_among : (P : ℚ → Type 0) (l : PlanLine) (e : Option ℕ) → (if is_some e then is_some l.duration else is_none l.duration) ≡ true → P l.at → AllByRecursion (λ s. P s.time) (end_step l e) → P (end_of l)
+end_among P l None f p h = subst P (end_is_at l (none_out l.duration f)) p
+  where
+    none_out : (d : Option ℚ) → is_none d ≡ true → d ≡ None
+    none_out None e = refl
+    none_out (Some d) e = cc
 end_among P l (Some s) f p h = h.0
 
-pub ends_outside : (task : TaskParts) (plan : Plan) (P : ℚ → Type 0) → AllByRecursion (IsFormed task) plan → AllByRecursion (λ s. P s.time) (steps task plan) → AllByRecursion (λ l. P (end_of l)) plan
-ends_outside task plan P f h = all_both (IsFormed task) (λ l. AllByRecursion (λ s. P s.time) (line_steps task l)) (λ l. P (end_of l)) plan
-    (λ l f h. end_among P l (action_of task l.action).end f h.0 h.1) f (all_of_flat_map (λ s. P s.time) (line_steps task) plan (all_left (λ s. P s.time) (flat_map (line_steps task) plan) (timed_steps task) h))
+pub ends_outside : (task : TaskParts) (plan : Plan) (P : ℚ → Type 0) → IsFormed task plan → AllByRecursion (λ s. P s.time) (steps task plan) → AllByRecursion (λ l. P (end_of l)) plan
+ends_outside task plan P f h = all_both (λ l. is_formed task l ≡ true) (λ l. AllByRecursion (λ s. P s.time) (line_steps task l)) (λ l. P (end_of l)) plan
+    (λ l f h. end_among P l (action_of task l.action).end (and_right _ _ f) h.0 h.1) (all_out (is_formed task) plan f) (all_of_flat_map (λ s. P s.time) (line_steps task) plan (each_left (λ s. P s.time) (flat_map (line_steps task) plan) (timed_steps task) h))
 
 runs_same : (from to t : ℚ) (l : PlanLine) → from <ℚ t → t ≤ℚ to → Outside from to (end_of l) → runs_between from t l ≡ runs_between from to l
-runs_same from to t l h k (inl e) = ap (λ b. (l.at ≤? from) && b) (ap not (lt_in (end_of l) t (le_lt_transℚ (end_of l) from t e h)) ∙ sym (ap not (lt_in (end_of l) to (le_lt_transℚ (end_of l) from to e (lt_le_transℚ from t to h k)))))
-runs_same from to t l h k (inr e) = ap (λ b. (l.at ≤? from) && b) (le_in t (end_of l) (le_transℚ t to (end_of l) k e) ∙ sym (le_in to (end_of l) e))
+runs_same from to t l h k (inl e) = ap (λ b. (l.at ≤? from) && b) (ap not (lt_in (end_of l) t (le_lt_trans (end_of l) from t e h)) ∙ sym (ap not (lt_in (end_of l) to (le_lt_trans (end_of l) from to e (lt_le_trans from t to h k)))))
+runs_same from to t l h k (inr e) = ap (λ b. (l.at ≤? from) && b) (le_in t (end_of l) (le_trans t to (end_of l) k e) ∙ sym (le_in to (end_of l) e))
 
 running_same : (task : TaskParts) (plan : Plan) (from to t : ℚ) → from <ℚ t → t ≤ℚ to → AllByRecursion (λ l. Outside from to (end_of l)) plan → filter (runs_between from t) plan ≡ filter (runs_between from to) plan
 running_same task plan from to t h k a = filter_same (runs_between from t) (runs_between from to) plan (all_map (λ l. Outside from to (end_of l)) (λ l. runs_between from t l ≡ runs_between from to l) plan (λ l o. runs_same from to t l h k o) a)
@@ -151,7 +157,7 @@ moved_out task plan lines from t s c e h = (
 
 -- ---- the segment
 
-adjacent_ascend : (ts : List ℚ) (k : ℕ) → Ascends ts → suc k < length ts → slice_index_or ts k zeroℚ <ℚ slice_index_or ts (suc k) zeroℚ
+pub adjacent_ascend : (ts : List ℚ) (k : ℕ) → Ascends ts → suc k < length ts → slice_index_or ts k zeroℚ <ℚ slice_index_or ts (suc k) zeroℚ
 adjacent_ascend [] k a h = absurd (omega arith)
 adjacent_ascend (u ∷ us) zero a h = below_later u zero us a.0 (omega arith)
 adjacent_ascend (u ∷ us) (suc k) a h = adjacent_ascend us k a.1 (omega arith)
@@ -187,12 +193,12 @@ held_ends task plan from to s c u e f = (
         (λ t. all_under (λ form. zeroℚ ≤ℚ grown (value form s.fluents) (slope task (filter (runs_between from to) plan) form) from t) (from <ℚ t) (t <ℚ to) c.comparisons (λ h l. (at t h l).1))
 
 -- over a segment without happenings a condition holds at every instant exactly where it holds at both ends
-pub segment : (task : TaskParts) (plan : Plan) (k : ℕ) (c : Condition) → suc k < count task plan → AllByRecursion (IsFormed task) plan
+pub segment : (task : TaskParts) (plan : Plan) (k : ℕ) (c : Condition) → suc k < count task plan → IsFormed task plan
     → HoldsWithin task plan c (time_of task plan k) (time_of task plan (suc k)) ↔ IsTrue (holds c (state_after task plan k)) × IsTrue (holds c (state_before task plan (suc k)))
 unfolding reached
 segment task plan k c n formed = (
-  λ f. held_ends task plan from to s c ascend (λ t h l. same t h (lt_leℚ t to l)) (λ t h l. subst (λ x. IsTrue (holds c x)) (at t h l) (f t h l).0),
-  λ ends t h l. both t h l (subst (λ x. IsTrue (holds c x)) (sym (at t h l)) (held_between task plan from to t s c (same t h (lt_leℚ t to l)) (lt_leℚ from t h) (lt_leℚ t to l) ends.0 ends.1)),
+  λ f. held_ends task plan from to s c ascend (λ t h l. same t h (lt_le t to l)) (λ t h l. subst (λ x. IsTrue (holds c x)) (at t h l) (f t h l).0),
+  λ ends t h l. both t h l (subst (λ x. IsTrue (holds c x)) (sym (at t h l)) (held_between task plan from to t s c (same t h (lt_le t to l)) (lt_le from t h) (lt_le t to l) ends.0 ends.1)),
 )
   where
     from : ℚ
@@ -211,7 +217,7 @@ segment task plan k c n formed = (
     same t h l = running_same task plan (time_of task plan k) (time_of task plan (suc k)) t h l (ends_outside task plan (Outside (time_of task plan k) (time_of task plan (suc k))) formed (steps_outside task plan k n))
 
     at : (t : ℚ) → time_of task plan k <ℚ t → t <ℚ time_of task plan (suc k) → before task plan t ≡ moved task plan (time_of task plan k) t (state_after task plan k)
-    at t h l = before-between task plan k t (omega arith) h (λ _. lt_leℚ t (time_of task plan (suc k)) l)
+    at t h l = before-between task plan k t (omega arith) h (λ _. lt_le t (time_of task plan (suc k)) l)
 
     both : (t : ℚ) → time_of task plan k <ℚ t → t <ℚ time_of task plan (suc k) → IsTrue (holds c (before task plan t)) → IsTrue (holds c (before task plan t)) × IsTrue (holds c (after task plan t))
     both t h l p = (p, subst (λ x. IsTrue (holds c x)) (sym (after-same task plan t (no_steps task plan (time_of task plan k) (time_of task plan (suc k)) t h l (steps_outside task plan k n)))) p)
@@ -219,11 +225,11 @@ segment task plan k c n formed = (
 -- a line that runs between two times runs at every instant strictly between them
 pub runs_between-at : (from to t : ℚ) (l : PlanLine) → runs_between from to l ≡ true → from <ℚ t → t <ℚ to → runs_at l t ≡ true
 runs_between-at from to t l e h k = and_in (l.at <? t) (t <? end_of l)
-    (lt_in l.at t (le_lt_transℚ l.at from t (le_out l.at from (and_left (l.at ≤? from) (to ≤? end_of l) e)) h))
-    (lt_in t (end_of l) (lt_le_transℚ t to (end_of l) k (le_out to (end_of l) (and_right (l.at ≤? from) (to ≤? end_of l) e))))
+    (lt_in l.at t (le_lt_trans l.at from t (le_out l.at from (and_left (l.at ≤? from) (to ≤? end_of l) e)) h))
+    (lt_in t (end_of l) (lt_le_trans t to (end_of l) k (le_out to (end_of l) (and_right (l.at ≤? from) (to ≤? end_of l) e))))
 
 -- and where no line ends strictly between them, one that runs at an instant strictly between runs between them, if it doesn't start there
 pub runs_at-between : (from to t : ℚ) (l : PlanLine) → runs_at l t ≡ true → from <ℚ t → t <ℚ to → Outside from to l.at → Outside from to (end_of l) → runs_between from to l ≡ true
-runs_at-between from to t l e h k (inr a) b = absurd (lt_le_absurd t to k (le_transℚ to l.at t a (lt_leℚ l.at t (lt_out l.at t (and_left (l.at <? t) (t <? end_of l) e)))))
-runs_at-between from to t l e h k (inl a) (inl b) = absurd (lt_le_absurd t from (lt_le_transℚ t (end_of l) from (lt_out t (end_of l) (and_right (l.at <? t) (t <? end_of l) e)) b) (lt_leℚ from t h))
+runs_at-between from to t l e h k (inr a) b = absurd (lt_le_absurd t to k (le_trans to l.at t a (lt_le l.at t (lt_out l.at t (and_left (l.at <? t) (t <? end_of l) e)))))
+runs_at-between from to t l e h k (inl a) (inl b) = absurd (lt_le_absurd t from (lt_le_trans t (end_of l) from (lt_out t (end_of l) (and_right (l.at <? t) (t <? end_of l) e)) b) (lt_le from t h))
 runs_at-between from to t l e h k (inl a) (inr b) = and_in (l.at ≤? from) (to ≤? end_of l) (le_in l.at from a) (le_in to (end_of l) b)

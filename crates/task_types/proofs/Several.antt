@@ -6,7 +6,7 @@ use Rattle.std.proofs.lemmas.Bool.{eq-eqb}
 use Rattle.std.proofs.lemmas.Bool.Decides.{nat_tests}
 use Rattle.std.proofs.lemmas.List.{take_all}
 use Rattle.std.proofs.lemmas.List.Folds.{list_any_at}
-use Rattle.task_types.specs.Numbers.{are_several}
+use Rattle.task_types.specs.Sets.{are_several}
 
 same_out : (m n : ℕ) → not (m == n) ≡ false → m ≡ n
 same_out m n e = grind (arith, nat_tests)

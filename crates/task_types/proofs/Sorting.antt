@@ -6,9 +6,10 @@ use Rattle.rational.specs.Rational.{zeroℚ}
 use Rattle.rational.proofs.Order.{ℚ_ordered}
 use Rattle.rational.proofs.Ring.{◌⊕◌, num, ◌≼◌, ◌≺◌}
 use Rattle.rational.proofs.Solve.{contradiction}
+use Rattle.basics.proofs.Bools.{and_left, and_right, and_in}
 use Rattle.task_types.specs.declared.parts.TaskParts.{TaskParts}
 use Rattle.task_types.specs.declared.parts.Rules.{Rules}
-use Rattle.task_types.specs.Numbers.{◌≤?◌}
+use Rattle.task_types.specs.Tests.{◌≤?◌}
 use Rattle.task_types.specs.Plan.{snap_of}
 use Rattle.task_types.specs.declared.orderings.Link.{Link}
 use Rattle.task_types.specs.declared.orderings.Link.TheVariants.{Free, Weak, Apart}
@@ -16,7 +17,6 @@ use Rattle.task_types.specs.Order.{link}
 use Rattle.task_types.specs.Agreement.{link_holds, are_linked}
 use Rattle.task_types.specs.Laws.{put_by_time, by_time, SortingKeepsLinks}
 use Rattle.task_types.proofs.Comparisons.{le_out, later_out, lt_le_absurd}
-use Rattle.task_types.proofs.Everyone.{and_left, and_right, and_in}
 use Rattle.task_types.proofs.Links.{link_comm}
 
 abbrev holds_of : TaskParts → Rules → ℕ × ℚ → ℕ × ℚ → Bool

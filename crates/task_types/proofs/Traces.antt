@@ -3,10 +3,10 @@ use Rattle.std.proofs.Common.{◌≡◌, refl, sym, ◌∙◌, ℕ, zero, suc, �
 use Rattle.std.specs.Prelude.{slice_index_or, ◌⊎◌, ◌↔◌, nat_le}
 use native.Mathlib.Decide.{dec_lt}
 use Rattle.std.proofs.lemmas.Bool.Decides.{nat_tests}
+use Rattle.basics.proofs.Bools.{and_left, and_right, and_in}
 use Rattle.task_types.specs.declared.constraints.TrailKind.TheVariants.{AtMostOnce}
-use Rattle.task_types.specs.Numbers.{every, ◌⇒◌}
+use Rattle.task_types.specs.Tests.{every, ◌⇒◌}
 use Rattle.task_types.specs.Trace.{kept}
-use Rattle.task_types.proofs.Everyone.{and_left, and_right, and_in}
 
 pub every_out : (n : ℕ) (p : ℕ → Bool) → every n p ≡ true → (i : ℕ) → i < n → p i ≡ true
 every_out zero p e i h = absurd (omega arith)

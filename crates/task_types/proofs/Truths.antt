@@ -15,6 +15,9 @@ tree_holds-is l = ap (λ t facts. fold-FactTree Bool (truth facts) t) (sym (roll
     ext : {f g : (ℕ → Bool) → Bool} → ((x : ℕ → Bool) → f x ≡ g x) → f ≡ g
     ext h = λ i x. h x i
 
+pub tree_holds-is_at : (l : Literal) (facts : ℕ → Bool) → tree_holds (tree.Is l) facts ≡ literal_holds l facts
+tree_holds-is_at l facts = ap (λ f. f facts) (tree_holds-is l)
+
 pub tree_holds-not : (part : FactTree) (facts : ℕ → Bool) → tree_holds (tree.Not part) facts ≡ not (tree_holds part facts)
 unfolding tree_holds
 tree_holds-not part facts = ap (λ t. fold-FactTree Bool (truth facts) t) (sym (rolls-Not part)) ∙ fold-roll-FactTree Bool (truth facts) (FactTree-F.Not part)

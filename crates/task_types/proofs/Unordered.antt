@@ -10,9 +10,9 @@ use Rattle.task_types.specs.declared.conditions.Condition.{Condition}
 use Rattle.task_types.specs.declared.parts.Rules.{Rules}
 use Rattle.task_types.specs.declared.parts.TaskParts.{TaskParts}
 use Rattle.task_types.specs.declared.plans.PlanLine.{PlanLine}
-use Rattle.task_types.specs.Numbers.{◌≤?◌, total}
+use Rattle.task_types.specs.Tests.{◌≤?◌, total}
 use Rattle.task_types.specs.State.{State, holds, value}
-use Rattle.task_types.specs.Plan.{Plan, Step, action_of, snap_of, end_of, plan_steps, timed_steps}
+use Rattle.task_types.specs.Plan.{Plan, Step, is_formed, action_of, snap_of, end_of, plan_steps, timed_steps}
 use Rattle.task_types.specs.Course.{before, last_state}
 use Rattle.task_types.specs.Trace.{Trace, trace, met}
 use Rattle.task_types.specs.Cost.{soft_cost, total_time, cost, greatest}
@@ -96,6 +96,7 @@ module _ (task : TaskParts) (rules : Rules) (plan other : Plan) (same : SameLine
 
   pub valid-same : Valid task rules plan → Valid task rules other
   valid-same v = record {
+    formed = sym (all_lines (is_formed task) (λ l. refl) plan other same) ∙ v.formed;
     in_time = sym (all_lines (is_in_time rules) (λ l. refl) plan other same) ∙ v.in_time;
     durations = sym (all_lines (has_fit_duration task rules other) (λ l. refl) plan other same) ∙ sym (ap (λ (p : PlanLine → Bool). list_all p plan) (fun_ext (λ l. fits_here l l.duration))) ∙ v.durations;
     apart = sym (kept_apart-same task rules plan other (SameLines-IsAlike task plan other same).steps) ∙ v.apart;

@@ -5,17 +5,18 @@ use Rattle.std.specs.List.{filter, flat_map}
 use Rattle.rational.specs.Rational.{ℚ, zeroℚ, ◌+ℚ◌, ◌*ℚ◌, ◌-ℚ◌, neg_ℚ, inverse}
 use Rattle.rational.proofs.Field.{ℚ_ring}
 use Rattle.rational.proofs.Ring.{law, ◌⊕◌, ◌⊗◌, ◌⊖◌, num, ◌≐◌}
+use Rattle.exact_lin.specs.Reckonings.{Reckoning, Sum, Product, outcome, sums}
 use Rattle.task_types.specs.declared.costs.LateCost.{LateCost}
 use Rattle.task_types.specs.declared.costs.Piece.{Piece}
 use Rattle.task_types.specs.declared.parts.TaskParts.{TaskParts}
 use Rattle.task_types.specs.declared.plans.PlanLine.{PlanLine}
-use Rattle.task_types.specs.Numbers.{◌≤?◌, total}
+use Rattle.task_types.specs.Tests.{◌≤?◌, total}
 use Rattle.task_types.specs.State.{State, value}
 use Rattle.task_types.specs.Plan.{Plan, Step}
 use Rattle.task_types.specs.Course.{increased, happen, rates_of, runs_between, rate, moved, last_state}
 use Rattle.task_types.specs.Trace.{trace}
 use Rattle.task_types.specs.Cost.{cost, late_value, soft_cost, total_time}
-use Rattle.task_types.specs.Reckoned.{Reckoning, Sum, Product, outcome, sums, put_by_start, by_start, assigned_value, rate_reckoned, move_of, late_reckoned, piece_reckoned, soft_reckoned, cost_reckoned}
+use Rattle.task_types.specs.Reckoned.{put_by_start, by_start, assigned_value, rate_reckoned, move_of, late_reckoned, piece_reckoned, soft_reckoned, cost_reckoned}
 use Rattle.task_types.specs.Laws.{ends_at, ReckoningsEndAtTheValue}
 use Rattle.task_types.proofs.Alike.{fold-total}
 
@@ -77,7 +78,7 @@ pieces_end : (lower : ℚ) (p : Piece) (m : ℚ) → ends_at zeroℚ (piece_reck
 pieces_end lower p m = law ℚ_ring (p.from ∷ p.to ∷ m ∷ lower ∷ inverse (p.until -ℚ lower) ∷ []) (λ a b m l i. a ⊕ ((b ⊖ a) ⊗ i) ⊗ (m ⊖ l) ≐ a ⊕ ((b ⊖ a) ⊗ (m ⊖ l)) ⊗ i) refl
 
 cost_ends : (task : TaskParts) (plan : Plan) → ends_at zeroℚ (cost_reckoned task plan) ≡ cost task plan
-unfolding cost
+unfolding cost value
 cost_ends task plan =
     ends_at-append (value task.metric.fluents (last_state task plan).fluents) (flat_map (λ s. soft_reckoned s (trace task plan) (last_state task plan)) task.soft) _
     ∙ ends_at-sums (task.metric.constant +ℚ task.metric.last *ℚ total_time plan) (value task.metric.fluents (last_state task plan).fluents ∷ costs)

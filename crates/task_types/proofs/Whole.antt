@@ -1,10 +1,9 @@
 -- A condition holds strictly between two happenings where it holds at both ends of each segment between them.
 use Rattle.std.proofs.Common.{◌≡◌, refl, sym, ap, subst, ◌∙◌, ℕ, zero, suc, ◌<◌, ◌≤◌, arith, ⊎_elim, inl, inr}
 use Rattle.std.specs.Prelude.{◌⊎◌, IsTrue}
-use Rattle.std.specs.List.{AllByRecursion}
 use native.Mathlib.Decide.{dec_lt}
 use Rattle.rational.specs.Rational.{ℚ, ◌≤ℚ◌, ◌<ℚ◌}
-use Rattle.rational.proofs.Order.{lt_leℚ, le_or_gt, le_antisymmℚ, lt_irreflℚ}
+use Rattle.rational.proofs.Order.{lt_le, le_or_gt, le_antisymm, lt_irrefl}
 use Rattle.task_types.specs.declared.parts.TaskParts.{TaskParts}
 use Rattle.task_types.specs.declared.conditions.Condition.{Condition}
 use Rattle.task_types.specs.State.{holds}
@@ -42,12 +41,12 @@ pub after-at : (task : TaskParts) (plan : Plan) (k : ℕ) → suc k < count task
 unfolding after
 after-at task plan k n h = ap (λ s. happen task (steps_at task plan (time_of task plan (suc k))) s) (before-at task plan k n h)
 
-pub over_segments : (task : TaskParts) (plan : Plan) (c : Condition) (i j : ℕ) → AllByRecursion (IsFormed task) plan → i < j → j < count task plan
+pub over_segments : (task : TaskParts) (plan : Plan) (c : Condition) (i j : ℕ) → IsFormed task plan → i < j → j < count task plan
     → ((k : ℕ) → i ≤ k → k < j → BothEnds task plan c k) → HoldsWithin task plan c (time_of task plan i) (time_of task plan j)
-over_segments task plan c i j formed h n f t l m = go (locate (time_of task plan) t i j h l (lt_leℚ t (time_of task plan j) m))
+over_segments task plan c i j formed h n f t l m = go (locate (time_of task plan) t i j h l (lt_le t (time_of task plan j) m))
   where
     next : (k : ℕ) → k < j → time_of task plan (suc k) ≡ t → suc k < j
-    next k b e = elim (dec_lt (suc k) j) [ yes p ↦ p | no p ↦ absurd (lt_irreflℚ t (subst (λ x. t <ℚ x) (ap (time_of task plan) (last p b) ∙ e) m)) ]
+    next k b e = elim (dec_lt (suc k) j) [ yes p ↦ p | no p ↦ absurd (lt_irrefl t (subst (λ x. t <ℚ x) (ap (time_of task plan) (last p b) ∙ e) m)) ]
       where
         last : (suc k < j → ⊥) → k < j → j ≡ suc k
         last p b = omega arith
@@ -59,4 +58,4 @@ over_segments task plan c i j formed h n f t l m = go (locate (time_of task plan
     )
 
     go : (k : ℕ) × (i ≤ k) × (k < j) × (time_of task plan k <ℚ t) × (t ≤ℚ time_of task plan (suc k)) → IsTrue (holds c (before task plan t)) × IsTrue (holds c (after task plan t))
-    go r = ⊎_elim (λ e. there r.0 r.1 r.2 r.3 (le_antisymmℚ (time_of task plan (suc r.0)) t e r.4)) (λ e. (segment task plan r.0 c (omega (arith, r.2)) formed).1 (f r.0 r.1 r.2) t r.3 e) (le_or_gt (time_of task plan (suc r.0)) t)
+    go r = ⊎_elim (λ e. there r.0 r.1 r.2 r.3 (le_antisymm (time_of task plan (suc r.0)) t e r.4)) (λ e. (segment task plan r.0 c (omega (arith, r.2)) formed).1 (f r.0 r.1 r.2) t r.3 e) (le_or_gt (time_of task plan (suc r.0)) t)

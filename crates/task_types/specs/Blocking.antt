@@ -1,4 +1,4 @@
--- Where an ordering is blocked: a literal or constraint that fails along its list of steps, whatever their times are.
+-- Believed: where an ordering is blocked, since a literal or constraint fails along it whatever the times are.
 use Rattle.std.specs.Prelude.{ℕ, ◌+◌, Bool, not, ◌&&◌, ◌||◌, ◌==◌, if◌then◌else◌, List, [], ◌∷◌, ◌++◌, map, length, take, slice_index, Option, fold}
 use Rattle.std.specs.List.{flat_map, enumerate_from, find}
 use Rattle.std.specs.Option.{option_map}
@@ -12,7 +12,8 @@ use Rattle.task_types.specs.declared.constraints.TrailKind.TheVariants.{Within}
 use Rattle.task_types.specs.declared.orderings.Blocked.{Blocked}
 use Rattle.task_types.specs.declared.orderings.Blocked.TheVariants as blocked_by
 use Rattle.task_types.specs.declared.parts.TaskParts.{TaskParts}
-use Rattle.task_types.specs.Numbers.{◌≤?◌, some, ◌⇒◌, is_in, numbers}
+use Rattle.task_types.specs.Tests.{◌≤?◌, some, ◌⇒◌}
+use Rattle.task_types.specs.Sets.{is_in, numbers}
 use Rattle.task_types.specs.State.{literal_holds, tree_holds}
 use Rattle.task_types.specs.Plan.{action_of, snap_of}
 use Rattle.task_types.specs.Course.{initial}
@@ -42,7 +43,8 @@ abbrev pub start_number : TaskParts → ℕ → ℕ → List ℕ → ℕ → ℕ
 start_number task a n [] found = found
 start_number task a n (s ∷ ss) found = start_number task a (n + 1) ss (if (action_of task a).start == s then n else found)
 
--- Of step k, from 0, the literals of its own condition are asked before it, then, after it, the over-all literals of each action that runs then, in the order of the starts.
+-- Of step k, from 0, the literals of its own condition are asked before it, then, after it, the over-all literals of
+-- each action that runs then, in the order of the starts.
 abbrev pub step_tests : TaskParts → List ℕ → ℕ → List (Blocked × Bool)
 step_tests task steps k =
     let s = snap_of task (slice_index steps k) in
@@ -54,7 +56,8 @@ step_tests task steps k =
 abbrev pub list_trace : TaskParts → List ℕ → Trace
 list_trace task steps = map (λ k. record { facts = facts_after task (take k steps); time = zeroℚ }) (numbers (length steps + 1))
 
--- A constraint may be met where the states of the list meet it; of a `within`, where its formula holds in a state after a step, or holds at first and its moment isn't below 0.
+-- A constraint may be met where the states of the list meet it; a `within`, where its formula holds in some state of
+-- the list, and, if that is so at first, its moment isn't below 0.
 abbrev pub may_be_met : TrailKind → Trail → Trace → Bool
 may_be_met Within c xs = some (length xs) (λ k. at xs k (λ m. tree_holds c.first m.facts)) && (at xs 0 (λ m. tree_holds c.first m.facts) ⇒ (zeroℚ ≤? c.moment))
 may_be_met kind c xs = met c xs

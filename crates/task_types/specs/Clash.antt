@@ -1,4 +1,5 @@
--- What a snap action reads and writes, and which steps clash (Fox and Long 2003: mutex actions, the rule of no moving targets).
+-- Believed: what a snap action reads and writes, and which steps clash.
+-- After Fox and Long 2003: mutex actions, the rule of no moving targets.
 use Rattle.std.specs.Prelude.{ℕ, Bool, false, not, ◌||◌, List, ◌++◌, map, option_to_list}
 use Rattle.std.specs.List.{filter, flat_map}
 use Rattle.exact_lin.specs.Forms.{LinearForm}
@@ -9,7 +10,7 @@ use Rattle.task_types.specs.declared.actions.Snap.{Snap}
 use Rattle.task_types.specs.declared.actions.SnapKind.{SnapKind}
 use Rattle.task_types.specs.declared.actions.SnapKind.TheVariants.{Start, End, Instant, Timed}
 use Rattle.task_types.specs.declared.parts.TaskParts.{TaskParts}
-use Rattle.task_types.specs.Numbers.{meet}
+use Rattle.task_types.specs.Sets.{meet}
 use Rattle.task_types.specs.Plan.{action_of}
 
 -- the fluents of a form, and the facts and fluents of a condition
@@ -60,7 +61,8 @@ increased_fluents s = map (λ e. e.0) s.effect.increases
 abbrev pub written_fluents : Snap → List ℕ
 written_fluents s = assigned_fluents s ++ increased_fluents s
 
--- One snap action disturbs another where it changes a fact or fluent that the other reads, deletes a fact that the other adds, or writes a fluent that the other assigns.
+-- One snap action disturbs another where it changes a fact or fluent that the other reads, deletes a fact that the
+-- other adds, or writes a fluent that the other assigns.
 abbrev pub disturbs : TaskParts → Snap → Snap → Bool
 disturbs task y x = meet (read_facts x) (changed_facts y) || meet x.effect.adds y.effect.deletes
     || meet (read_fluents task x) (written_fluents y) || meet (assigned_fluents x) (written_fluents y)

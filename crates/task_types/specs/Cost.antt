@@ -1,4 +1,6 @@
--- The cost of a plan (Fox and Long 2003: plan metrics; Gerevini and Long 2005: `is-violated`; the time costs are this project's own).
+-- Believed: the cost of a plan.
+-- Plan metrics are those of Fox and Long 2003, `is-violated` is that of Gerevini and Long 2005; the time costs are this
+-- project's own.
 use Rattle.std.specs.Prelude.{Bool, ◌&&◌, if◌then◌else◌, List, [], ◌∷◌, map, Option, Some, None}
 use Rattle.std.specs.List.{list_all, flat_map}
 use Rattle.rational.specs.Rational.{ℚ, zeroℚ, ◌+ℚ◌, ◌-ℚ◌, ◌*ℚ◌, inverse}
@@ -9,13 +11,14 @@ use Rattle.task_types.specs.declared.costs.Soft.{Soft}
 use Rattle.task_types.specs.declared.costs.Soft.TheVariants.{Trail, Goal, Late, Pieces}
 use Rattle.task_types.specs.declared.formulas.FactTree.{FactTree}
 use Rattle.task_types.specs.declared.parts.TaskParts.{TaskParts}
-use Rattle.task_types.specs.Numbers.{◌≤?◌, total}
+use Rattle.task_types.specs.Tests.{◌≤?◌, total}
 use Rattle.task_types.specs.State.{State, value, comparison_holds, tree_holds}
 use Rattle.task_types.specs.Plan.{Plan, end_of}
 use Rattle.task_types.specs.Course.{last_state}
 use Rattle.task_types.specs.Trace.{Trace, trace, met, first_moment}
 
--- A time cost in three numbers is 0 up to `soft`, rises evenly to `top` at `hard`, and is `top` from there on and where its formula never holds.
+-- A time cost in three numbers is 0 up to `soft`, rises evenly to `top` at `hard`, and is `top` from there on and where
+-- its formula never holds.
 abbrev pub late_value : LateCost → Option ℚ → ℚ
 late_value c None = c.top
 late_value c (Some m) =
@@ -35,10 +38,15 @@ abbrev pub last_to : ℚ → List Piece → ℚ
 last_to other [] = other
 last_to other (p ∷ ps) = last_to p.to ps
 
--- A time cost in pieces has the value of the piece in which the first moment lies, and the last `to` past them all and where its formula never holds.
+-- the greater of two numbers
+abbrev pub greater : ℚ → ℚ → ℚ
+greater q r = if q ≤? r then r else q
+
+-- A time cost in pieces has the value of the piece in which the first moment lies, the first `from` at 0 and before,
+-- and the last `to` past them all and where its formula never holds.
 abbrev pub pieces_value : List Piece → Option ℚ → ℚ
 pieces_value ps None = last_to zeroℚ ps
-pieces_value ps (Some m) = piece_at zeroℚ zeroℚ ps m
+pieces_value ps (Some m) = piece_at zeroℚ zeroℚ ps (greater zeroℚ m)
 
 -- A goal preference is met where its formula and its comparisons hold in the last state.
 abbrev pub goal_met : FactTree → List LinearForm → State → Bool
@@ -52,9 +60,6 @@ soft_cost (Late formula c weight) xs last = weight *ℚ late_value c (first_mome
 soft_cost (Pieces formula ps weight) xs last = weight *ℚ pieces_value ps (first_moment formula xs)
 
 -- the greatest of a list; 0 where it is empty
-abbrev pub greater : ℚ → ℚ → ℚ
-greater q r = if q ≤? r then r else q
-
 abbrev pub greatest : List ℚ → ℚ
 greatest [] = zeroℚ
 greatest (x ∷ []) = x
@@ -64,7 +69,8 @@ greatest (x ∷ y ∷ ys) = greater x (greatest (y ∷ ys))
 abbrev pub total_time : Plan → ℚ
 total_time plan = greatest (flat_map (λ l. l.at ∷ end_of l ∷ []) plan)
 
--- The cost is the metric's constant, plus its factor times the total time, plus its form over the fluents of the last state, plus the cost of each soft term.
+-- The cost is the metric's constant, plus its factor times the total time, plus its form over the fluents of the last
+-- state, plus the cost of each soft term.
 unfoldable pub cost : TaskParts → Plan → ℚ
 cost task plan = task.metric.constant +ℚ task.metric.last *ℚ total_time plan +ℚ value task.metric.fluents (last_state task plan).fluents
     +ℚ total (map (λ s. soft_cost s (trace task plan) (last_state task plan)) task.soft)

@@ -1,4 +1,5 @@
--- The states of a timed plan (Fox and Long 2003: the updating function, the execution of a happening, continuous change between happenings).
+-- Believed: the states of a timed plan, at and between its happenings.
+-- After Fox and Long 2003: the updating function, the execution of a happening, continuous change between happenings.
 use Rattle.std.specs.Prelude.{ℕ, zero, suc, Bool, false, cond, not, ◌&&◌, ◌||◌, ◌==◌, List, [], ◌∷◌, map, length, slice_index_or, fold}
 use Rattle.std.specs.List.{list_any, filter, flat_map}
 use Rattle.rational.specs.Rational.{ℚ, zeroℚ, ◌+ℚ◌, ◌*ℚ◌, ◌-ℚ◌}
@@ -6,7 +7,8 @@ use Rattle.task_types.specs.declared.conditions.Amount.{Amount}
 use Rattle.task_types.specs.declared.conditions.Effect.{Effect}
 use Rattle.task_types.specs.declared.parts.TaskParts.{TaskParts}
 use Rattle.task_types.specs.declared.plans.PlanLine.{PlanLine}
-use Rattle.task_types.specs.Numbers.{◌<?◌, ◌≤?◌, ◌=?◌, total, last_or_else, is_in}
+use Rattle.task_types.specs.Tests.{◌<?◌, ◌≤?◌, ◌=?◌, total, last_or_else}
+use Rattle.task_types.specs.Sets.{is_in}
 use Rattle.task_types.specs.State.{State, value}
 use Rattle.task_types.specs.Plan.{Plan, Step, snap_of, action_of, end_of, steps, happenings}
 
@@ -21,7 +23,8 @@ initial task = record {
 abbrev pub entries_of : {A : Type 0} → ℕ → List (ℕ × A) → List A
 entries_of f entries = map (λ e. e.1) (filter (λ e. e.0 == f) entries)
 
--- A line runs from one time to a later one where it starts no later than the former and ends no earlier than the latter.
+-- A line runs from one time to a later one where it starts no later than the former and ends no earlier than the
+-- latter.
 abbrev pub runs_between : ℚ → ℚ → PlanLine → Bool
 runs_between from to l = (l.at ≤? from) && (to ≤? end_of l)
 
@@ -33,7 +36,8 @@ rates_of task l f = entries_of f (snap_of task (action_of task l.action).start).
 unfoldable pub rate : TaskParts → Plan → ℚ → ℚ → ℕ → ℚ
 rate task plan from to f = total (flat_map (λ l. rates_of task l f) (filter (runs_between from to) plan))
 
--- A state moved to a later time, with no happening between, keeps its facts, and each fluent grows by its rate times the elapsed time.
+-- A state moved to a later time, with no happening between, keeps its facts, and each fluent grows by its rate times
+-- the elapsed time.
 unfoldable pub moved : TaskParts → Plan → ℚ → ℚ → State → State
 moved task plan from to s = record {
   facts = s.facts;
@@ -60,7 +64,8 @@ added task here f = list_any (λ step. is_in f (effect_of task step).adds) here
 abbrev pub deleted : TaskParts → List Step → ℕ → Bool
 deleted task here f = list_any (λ step. is_in f (effect_of task step).deletes) here
 
--- The steps of one happening apply together: facts are deleted, then added; of several assignments the last counts, and then come all increases.
+-- The steps of one happening apply together: facts are deleted, then added; of several assignments the last counts, and
+-- then come all increases.
 unfoldable pub happen : TaskParts → List Step → State → State
 happen task here s = record {
   facts = λ f. added task here f || (not (deleted task here f) && s.facts f);
@@ -78,7 +83,8 @@ time_of task plan k = slice_index_or (happenings task plan) k zeroℚ
 abbrev pub count : TaskParts → Plan → ℕ
 count task plan = length (happenings task plan)
 
--- The state in which t is reached after the first k happenings: the initial state before the first, since no line runs there, and else the state after the latest of them, moved.
+-- The state in which t is reached after the first k happenings: the initial state before the first, since no line runs
+-- there, and else the state after the latest of them, moved.
 unfoldable pub reached : TaskParts → Plan → ℕ → ℚ → State
 reached task plan zero t = initial task
 reached task plan (suc k) t = moved task plan (time_of task plan k) t (happen task (steps_at task plan (time_of task plan k)) (reached task plan k (time_of task plan k)))

@@ -1,37 +1,30 @@
--- Small tasks and plans on which the definitions are tried, and what they are to give there.
-use Rattle.std.specs.Prelude.{ℕ, ◌≡◌, ◌↔◌, Bool, true, false, IsTrue, List, [], ◌∷◌, Some, None, pos, negsuc, codes}
-use Rattle.rational.specs.Rational.{ℚ, ratio, ◌<ℚ◌, ◌≤ℚ◌}
+-- Believed: small tasks, plans and orderings on which the definitions are tried.
+-- What they give there is said in the other files of examples.
+use Rattle.std.specs.Prelude.{ℕ, Bool, true, false, List, [], ◌∷◌, Some, None, pos, negsuc, codes}
+use Rattle.rational.specs.Rational.{ℚ, ratio}
 use Rattle.exact_lin.specs.Forms.{LinearForm}
 use Rattle.task_types.specs.declared.actions.Action.{Action}
 use Rattle.task_types.specs.declared.actions.Bound.{Bound}
 use Rattle.task_types.specs.declared.actions.Schema.{Schema}
 use Rattle.task_types.specs.declared.actions.Snap.{Snap}
 use Rattle.task_types.specs.declared.actions.SnapKind.TheVariants.{Start, End, Instant, Timed}
+use Rattle.task_types.specs.declared.conditions.Amount.{Amount}
 use Rattle.task_types.specs.declared.conditions.Condition.{Condition}
 use Rattle.task_types.specs.declared.conditions.Effect.{Effect}
+use Rattle.task_types.specs.declared.constraints.Trail.{Trail}
+use Rattle.task_types.specs.declared.constraints.TrailKind.{TrailKind}
+use Rattle.task_types.specs.declared.costs.LateCost.{LateCost}
 use Rattle.task_types.specs.declared.costs.Metric.{Metric}
 use Rattle.task_types.specs.declared.costs.Soft.{Soft}
-use Rattle.task_types.specs.declared.costs.Soft.TheVariants.{Goal, Late, Pieces}
 use Rattle.task_types.specs.declared.formulas.FactTree.{FactTree}
 use Rattle.task_types.specs.declared.formulas.FactTree.TheVariants as tree
-use Rattle.task_types.specs.declared.orderings.Blocked.TheVariants as blocked_by
-use Rattle.task_types.specs.declared.tokens.Touch.TheVariants.{Look, Mark, Bend}
 use Rattle.task_types.specs.declared.parts.Fact.{Fact}
 use Rattle.task_types.specs.declared.parts.Fluent.{Fluent}
 use Rattle.task_types.specs.declared.parts.Rules.{Rules}
 use Rattle.task_types.specs.declared.parts.TaskParts.{TaskParts}
 use Rattle.task_types.specs.declared.plans.PlanLine.{PlanLine}
-use Rattle.task_types.specs.declared.plans.Reason.TheVariants as reason
-use Rattle.task_types.specs.State.{holds}
-use Rattle.task_types.specs.Plan.{Plan, action_of, snap_of, happenings}
-use Rattle.task_types.specs.Course.{before}
-use Rattle.task_types.specs.Cost.{cost}
-use Rattle.task_types.specs.Valid.{Valid, HoldsOverAll, IsFirstReason}
-use Rattle.task_types.specs.Touch.{touches_of}
-use Rattle.task_types.specs.Order.{Order, is_built, is_closed}
-use Rattle.task_types.specs.Blocking.{blocked}
-use Rattle.task_types.specs.Agreement.{agree, plan_of, ValidTimes}
-use Rattle.task_types.specs.WellMade.{IsWellMade}
+use Rattle.task_types.specs.Plan.{Plan}
+use Rattle.task_types.specs.Order.{Order}
 
 -- ---- parts of tasks
 
@@ -62,8 +55,15 @@ makes f = record { adds = f ∷ []; deletes = []; assigns = []; increases = [] }
 abbrev pub ends_fact : ℕ → Effect
 ends_fact f = record { adds = []; deletes = f ∷ []; assigns = []; increases = [] }
 
+-- a number, in every state
+abbrev pub just : ℚ → Amount
+just q = record { form = linear q []; duration = n 0 }
+
 abbrev pub raises : ℕ → ℚ → Effect
-raises f q = record { adds = []; deletes = []; assigns = []; increases = (f, record { form = linear q []; duration = n 0 }) ∷ [] }
+raises f q = record { adds = []; deletes = []; assigns = []; increases = (f, just q) ∷ [] }
+
+abbrev pub assigns_to : ℕ → ℚ → Effect
+assigns_to f q = record { adds = []; deletes = []; assigns = (f, just q) ∷ []; increases = [] }
 
 abbrev pub exactly : ℚ → List Bound
 exactly q = record { at_least = true; at_end = false; form = linear q [] } ∷ record { at_least = false; at_end = false; form = linear q [] } ∷ []
@@ -98,6 +98,12 @@ unset name = record { name = name; args = []; holds = false }
 abbrev pub by_time : Metric
 by_time = record { constant = n 0; last = n 1; fluents = linear (n 0) [] }
 
+abbrev pub by_meter : Metric
+by_meter = record { constant = n 0; last = n 0; fluents = linear (n 0) ((0, n 1) ∷ []) }
+
+abbrev pub no_metric : Metric
+no_metric = record { constant = n 0; last = n 0; fluents = linear (n 0) [] }
+
 abbrev pub lasting : ℕ → ℚ → ℚ → ℕ → PlanLine
 lasting a t d l = record { action = a; at = t; duration = Some d; line = l }
 
@@ -106,7 +112,8 @@ once a t l = record { action = a; at = t; duration = None; line = l }
 
 -- ---- tasks
 
--- Filling raises the level, q at first, by 2 per unit of time, and it is to be at most 10 all the while; a leak lowers it by 1.
+-- Filling raises the level, q at first, by 2 per unit of time, and it is to be at most 10 all the while; a leak lowers
+-- it by 1.
 abbrev pub tank : ℚ → TaskParts
 tank q = record {
   objects = [];
@@ -139,7 +146,7 @@ flags = record {
 }
 
 abbrev pub adds_and_raises : ℕ → Effect
-adds_and_raises f = record { adds = f ∷ []; deletes = []; assigns = []; increases = (0, record { form = linear (n 2) []; duration = n 0 }) ∷ [] }
+adds_and_raises f = record { adds = f ∷ []; deletes = []; assigns = []; increases = (0, just (n 2)) ∷ [] }
 
 -- Two actions raise the total cost, which nothing but the metric reads.
 abbrev pub meters : TaskParts
@@ -154,7 +161,7 @@ meters = record {
   goal = record { literals = record { fact = 0; holds = true } ∷ record { fact = 1; holds = true } ∷ []; comparisons = [] };
   hard = [];
   soft = [];
-  metric = record { constant = n 0; last = n 0; fluents = linear (n 0) ((0, n 1) ∷ []) };
+  metric = by_meter;
 }
 
 -- An action asks f + g to be at least 5 all the while, both 3 at first; `up` raises f by 2 and `down` lowers g by 2.
@@ -202,13 +209,14 @@ work d terms = record {
   goal = fact_holds 0;
   hard = [];
   soft = terms;
-  metric = record { constant = n 0; last = n 0; fluents = linear (n 0) [] };
+  metric = no_metric;
 }
 
 abbrev pub done : FactTree
 done = tree.Is (record { fact = 0; holds = true })
 
--- Charging takes at least 1 and at most the level, 0 at first and rising by 2; the upper bound is read at the end, or else at the start.
+-- Charging takes at least 1 and at most the level, 0 at first and rising by 2; the upper bound is read at the end, or
+-- else at the start.
 abbrev pub charge : Bool → TaskParts
 charge late = record {
   objects = [];
@@ -223,6 +231,74 @@ charge late = record {
   soft = [];
   metric = by_time;
 }
+
+-- An action puts 5 into f, another puts 7 into it; the first also raises f by `more`.
+abbrev pub puts : List (ℕ × Amount) → TaskParts
+puts more = record {
+  objects = [];
+  schemas = schema (codes "put") false ∷ schema (codes "set") false ∷ [];
+  facts = [];
+  fluents = fluent (codes "f") (n 1) ∷ [];
+  actions = instant (codes "put") 0 ∷ instant (codes "set") 1 ∷ [];
+  snaps = at_once 0 always_true (record { adds = []; deletes = []; assigns = (0, just (n 5)) ∷ []; increases = more }) ∷ at_once 1 always_true (assigns_to 0 (n 7)) ∷ [];
+  timed = [];
+  goal = always_true;
+  hard = [];
+  soft = [];
+  metric = by_time;
+}
+
+-- `flip` needs p, true at first, to be false; `double` deletes and adds q, and doubles r, 1 at first; `more` ends only
+-- where q holds, and raises r by its duration.
+abbrev pub small : TaskParts
+small = record {
+  objects = [];
+  schemas = schema (codes "flip") false ∷ schema (codes "double") false ∷ schema (codes "more") true ∷ [];
+  facts = record { name = codes "p"; args = []; holds = true } ∷ unset (codes "q") ∷ [];
+  fluents = fluent (codes "r") (n 1) ∷ [];
+  actions = instant (codes "flip") 0 ∷ instant (codes "double") 1 ∷ durative (codes "more") 2 3 [] always_true ∷ [];
+  snaps = at_once 0 (record { literals = record { fact = 0; holds = false } ∷ []; comparisons = [] }) (makes 1)
+      ∷ at_once 1 always_true (record { adds = 1 ∷ []; deletes = 1 ∷ []; assigns = (0, record { form = linear (n 0) ((0, n 2) ∷ []); duration = n 0 }) ∷ []; increases = [] })
+      ∷ at_start 2 []
+      ∷ record { kind = End; action = Some 2; condition = fact_holds 1; effect = record { adds = []; deletes = []; assigns = []; increases = (0, record { form = linear (n 0) []; duration = n 1 }) ∷ [] }; rates = [] } ∷ [];
+  timed = [];
+  goal = always_true;
+  hard = [];
+  soft = [];
+  metric = record { constant = n 3; last = n 0; fluents = linear (n 0) ((0, n 1) ∷ []) };
+}
+
+-- Nothing can be done, and p holds from the first.
+abbrev pub given : List Soft → TaskParts
+given terms = record {
+  objects = [];
+  schemas = [];
+  facts = record { name = codes "p"; args = []; holds = true } ∷ [];
+  fluents = [];
+  actions = [];
+  snaps = [];
+  timed = [];
+  goal = always_true;
+  hard = [];
+  soft = terms;
+  metric = no_metric;
+}
+
+-- a constraint of one formula, which counts with its moment in `within` alone
+abbrev pub trail : TrailKind → FactTree → ℚ → Trail
+trail kind formula moment = record { kind = kind; first = formula; second = tree.True; moment = moment }
+
+-- a constraint of two formulas
+abbrev pub pair_trail : TrailKind → FactTree → FactTree → Trail
+pair_trail kind first second = record { kind = kind; first = first; second = second; moment = n 0 }
+
+-- a fact is false
+abbrev pub fact_fails : ℕ → FactTree
+fact_fails f = tree.Is (record { fact = f; holds = false })
+
+-- a time cost: 0 up to 2, then rising evenly to 8 at 6
+abbrev pub late : LateCost
+late = record { soft = n 2; hard = n 6; top = n 8 }
 
 -- ---- plans and orderings
 
@@ -244,64 +320,14 @@ up_then_down_plan = lasting 0 (n 0) (n 1) 1 ∷ once 1 (ratio (pos 998) 1000) 2 
 abbrev pub down_then_up_plan : Plan
 down_then_up_plan = lasting 0 (n 0) (n 1) 1 ∷ once 2 (ratio (pos 998) 1000) 2 ∷ once 1 (ratio (pos 999) 1000) 3 ∷ []
 
--- ---- what is to come out
+-- passing the gate from a time on, in line 7 of a text
+abbrev pub passing : ℚ → Plan
+passing t = lasting 0 t (n 4) 7 ∷ []
 
--- The tasks above are well made.
-pub record TasksAreWellMade : Type 0 where
-  pub tank : IsWellMade (tank (n 0))
-  pub flags : IsWellMade flags
-  pub meters : IsWellMade meters
-  pub pair_watch : IsWellMade pair_watch
-  pub gate : IsWellMade gate
-  pub charge : IsWellMade (charge true)
+-- the gate opens, `pass` starts and ends, the gate closes
+abbrev pub through_the_gate : Order
+through_the_gate = record { steps = 2 ∷ 0 ∷ 1 ∷ 3 ∷ []; extra = [] }
 
--- Rates add up; filling from 0 just reaches the bound at its end; from 1 it is over the bound after 9/2, at no happening; durations are read where they are tagged.
-pub record CoursesComeOut : Type 0 where
-  pub rates_add : (before (tank (n 0)) fill_and_leak (ratio (pos 7) 3)).fluents 0 ≡ ratio (pos 7) 3
-  pub moments : happenings (tank (n 0)) fill_and_leak ≡ n 0 ∷ n 5 ∷ []
-  pub full : Valid (tank (n 0)) rules fill
-  pub full_cost : cost (tank (n 0)) fill ≡ n 5
-  pub over_after : (t : ℚ) → n 0 <ℚ t → t <ℚ n 5 → IsTrue (holds (action_of (tank (n 1)) 0).over_all (before (tank (n 1)) fill t)) ↔ (t ≤ℚ ratio (pos 9) 2)
-  pub over_reason : IsFirstReason (tank (n 1)) rules fill (reason.OverAll 1 (n 0) (n 5))
-  pub charged : Valid (charge true) rules (lasting 0 (n 0) (n 1) 1 ∷ [])
-  pub not_charged : IsFirstReason (charge false) rules (lasting 0 (n 0) (n 1) 1 ∷ []) (reason.Duration 1)
-
--- Setting and using one fact clash at less than epsilon; two increases at one moment don't, and both count.
-pub record ClashesComeOut : Type 0 where
-  pub too_near : IsFirstReason flags rules (once 0 (n 1) 1 ∷ once 1 (ratio (pos 10009) 10000) 2 ∷ []) (reason.Clash 1 2)
-  pub near_enough : Valid flags rules (once 0 (n 1) 1 ∷ once 1 (ratio (pos 1001) 1000) 2 ∷ [])
-  pub its_cost : cost flags (once 0 (n 1) 1 ∷ once 1 (ratio (pos 1001) 1000) 2 ∷ []) ≡ ratio (pos 1001) 1000
-  pub both_count : Valid meters rules (once 0 (n 0) 1 ∷ once 1 (n 0) 2 ∷ [])
-  pub both_cost : cost meters (once 0 (n 0) 1 ∷ once 1 (n 0) 2 ∷ []) ≡ n 4
-
--- Time costs in three numbers and in pieces, and two instances of one preference.
-pub record CostsComeOut : Type 0 where
-  pub late : cost (work (n 6) (Late done (record { soft = n 2; hard = n 6; top = n 8 }) (n 1) ∷ [])) (lasting 0 (n 0) (n 6) 1 ∷ []) ≡ n 8
-  pub between : cost (work (n 5) (Late done (record { soft = n 2; hard = n 6; top = n 8 }) (n 1) ∷ [])) (lasting 0 (n 0) (n 5) 1 ∷ []) ≡ n 6
-  pub in_pieces : cost (work (n 6) (Pieces done (record { until = n 2; from = n 0; to = n 0 } ∷ record { until = n 6; from = n 1; to = n 5 } ∷ record { until = n 9; from = n 8; to = n 8 } ∷ []) (n 1) ∷ [])) (lasting 0 (n 0) (n 6) 1 ∷ []) ≡ n 5
-  pub twice : cost (work (n 5) (Goal done [] (n 2) ∷ Goal done [] (n 2) ∷ [])) [] ≡ n 4
-
--- Raising before lowering keeps the sum; the ordering is built, closed and free of blocks, its times agree and are valid, and half a thousandth less doesn't agree. Lowering first breaks it.
-pub record OrderingsComeOut : Type 0 where
-  pub built : IsTrue (is_built pair_watch up_then_down)
-  pub closed : IsTrue (is_closed pair_watch up_then_down)
-  pub not_blocked : blocked pair_watch up_then_down.steps ≡ None
-  pub blocked_at : blocked flags (1 ∷ []) ≡ Some (blocked_by.AtStart 1 1)
-  pub its_plan : plan_of pair_watch up_then_down up_then_down_times ≡ up_then_down_plan
-  pub its_times : ValidTimes pair_watch rules up_then_down up_then_down_times
-  pub too_near : agree pair_watch rules up_then_down (n 0 ∷ ratio (pos 9985) 10000 ∷ ratio (pos 999) 1000 ∷ n 1 ∷ []) ≡ false
-  pub wrong_way : ¬ HoldsOverAll pair_watch down_then_up_plan (lasting 0 (n 0) (n 1) 1)
-
--- The touches of the steps of these tasks, token by token.
-pub record TouchesComeOut : Type 0 where
-  pub tank_start : touches_of (tank (n 0)) (snap_of (tank (n 0)) 0) ≡ (0, Look) ∷ (0, Bend) ∷ (1, Mark) ∷ []
-  pub tank_leak_end : touches_of (tank (n 0)) (snap_of (tank (n 0)) 3) ≡ (0, Bend) ∷ (2, Mark) ∷ []
-  pub flags_set : touches_of flags (snap_of flags 0) ≡ (0, Mark) ∷ []
-  pub flags_use : touches_of flags (snap_of flags 1) ≡ (0, Look) ∷ (1, Mark) ∷ []
-  pub meters_a : touches_of meters (snap_of meters 0) ≡ (0, Mark) ∷ []
-  pub pair_watch_hold : touches_of pair_watch (snap_of pair_watch 0) ≡ (0, Look) ∷ (1, Look) ∷ (2, Look) ∷ (3, Mark) ∷ []
-  pub pair_watch_up : touches_of pair_watch (snap_of pair_watch 2) ≡ (0, Mark) ∷ (2, Mark) ∷ []
-  pub pair_watch_down : touches_of pair_watch (snap_of pair_watch 3) ≡ (1, Mark) ∷ (2, Mark) ∷ []
-  pub gate_start : touches_of gate (snap_of gate 0) ≡ (0, Look) ∷ (2, Mark) ∷ []
-  pub gate_end : touches_of gate (snap_of gate 1) ≡ (0, Look) ∷ (1, Mark) ∷ (2, Mark) ∷ []
-  pub gate_opens : touches_of gate (snap_of gate 2) ≡ (0, Mark) ∷ []
+-- filling starts, the leak starts, filling ends, the leak ends
+abbrev pub fill_then_leak : Order
+fill_then_leak = record { steps = 0 ∷ 2 ∷ 1 ∷ 3 ∷ []; extra = [] }

@@ -1,4 +1,5 @@
-pub mod Numbers
+pub mod Tests
+pub mod Sets
 pub mod State
 pub mod Plan
 pub mod Course
@@ -14,4 +15,11 @@ pub mod Reckoned
 pub mod Laws
 pub mod WellMade
 pub mod Examples
+pub mod ExampleStates
+pub mod ExamplePlans
+pub mod ExampleClashes
+pub mod ExampleCosts
+pub mod ExampleOrderings
+pub mod ExampleTouches
+pub mod ExampleTasks
 pub mod Related

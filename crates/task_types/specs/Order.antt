@@ -1,5 +1,6 @@
--- Orderings of steps, and the links of steps that touch a common token (COLIN 2012: start and end snap actions in one total order; here less than that).
-use Rattle.std.specs.Prelude.{ℕ, Bool, true, false, not, ◌&&◌, ◌||◌, ◌==◌, nat_lt, nat_le, if◌then◌else◌, List, [], ◌++◌, length, take, slice_index, option_to_list, fold}
+-- Believed: orderings of steps, and the links of steps that touch a common token.
+-- COLIN (2012) keeps start and end snap actions in one total order; here it is less than that.
+use Rattle.std.specs.Prelude.{ℕ, Bool, true, false, not, ◌&&◌, ◌||◌, ◌==◌, nat_lt, nat_le, if◌then◌else◌, IsTrue, List, [], ◌++◌, length, take, slice_index, option_to_list, fold}
 use Rattle.std.specs.List.{list_any, list_all, filter, count_by}
 use Rattle.task_types.specs.declared.actions.Snap.{Snap}
 use Rattle.task_types.specs.declared.actions.SnapKind.{SnapKind}
@@ -7,7 +8,8 @@ use Rattle.task_types.specs.declared.actions.SnapKind.TheVariants.{Start, End, I
 use Rattle.task_types.specs.declared.orderings.Link.{Link}
 use Rattle.task_types.specs.declared.orderings.Link.TheVariants.{Free, Weak, Apart}
 use Rattle.task_types.specs.declared.parts.TaskParts.{TaskParts}
-use Rattle.task_types.specs.Numbers.{every, is_in, meet}
+use Rattle.task_types.specs.Tests.{every}
+use Rattle.task_types.specs.Sets.{is_in, meet}
 use Rattle.task_types.specs.Plan.{snap_of}
 use Rattle.task_types.specs.Trace.{at}
 use Rattle.task_types.specs.declared.tokens.Token.{Token}
@@ -53,7 +55,8 @@ timed_count task steps = count_by (λ s. is_timed (snap_of task s).kind) steps
 abbrev pub plan_step_count : TaskParts → List ℕ → ℕ
 plan_step_count task steps = count_by (λ s. not (is_timed (snap_of task s).kind)) steps
 
--- A snap action may follow a list: a start where its action doesn't run, an end where it does, an instantaneous action always, a timed step where it is the next one.
+-- A snap action may follow a list: a start where its action doesn't run, an end where it does, an instantaneous action
+-- always, a timed step where it is the next one.
 abbrev pub may_follow : TaskParts → List ℕ → ℕ → SnapKind → Bool
 may_follow task steps s Start = not (meet (option_to_list (snap_of task s).action) (running task steps))
 may_follow task steps s End = meet (option_to_list (snap_of task s).action) (running task steps)
@@ -64,16 +67,23 @@ may_follow task steps s Timed = at task.timed (timed_count task steps) (λ t. t.
 abbrev pub plan_step_limit : ℕ
 plan_step_limit = 128
 
--- An ordering is built where each step may follow those before it, its plan steps are within the limit, and each extra pair names a step and a later one.
+-- An ordering is built where each step may follow those before it, its plan steps are within the limit, and each extra
+-- pair names a step and a later one.
 unfoldable pub is_built : TaskParts → Order → Bool
 is_built task o = every (length o.steps) (λ k. may_follow task (take k o.steps) (slice_index o.steps k) (snap_of task (slice_index o.steps k)).kind)
     && nat_le (plan_step_count task o.steps) plan_step_limit
     && list_all (λ p. nat_lt p.0 p.1 && nat_lt p.1 (length o.steps)) o.extra
 
--- An ordering is closed where every start has its end and every timed step is there.
+-- A list of steps is closed where every start has its end and every timed step is there.
 unfoldable pub is_closed : TaskParts → Order → Bool
 is_closed task o = list_all (λ a. false) (running task o.steps) && (timed_count task o.steps == length task.timed)
 
--- The link of steps i and j of an ordering is Apart where an extra pair names them, and else that of their snap actions.
+-- A closed ordering is built, every start of it has its end, and every timed step is there.
+pub record IsClosedOrdering (task : TaskParts) (o : Order) : Type 0 where
+  pub built : IsTrue (is_built task o)
+  pub closed : IsTrue (is_closed task o)
+
+-- The link of steps i and j of an ordering is Apart where an extra pair names them, and else that of their snap
+-- actions.
 abbrev pub pair_link : TaskParts → Order → ℕ → ℕ → Link
 pair_link task o i j = if list_any (λ p. (p.0 == i) && (p.1 == j)) o.extra then Apart else link task (snap_of task (slice_index o.steps i)) (snap_of task (slice_index o.steps j))

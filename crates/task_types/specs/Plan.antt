@@ -1,6 +1,7 @@
--- Timed plans: their lines, their steps and their happenings (Fox and Long 2003: plans, the induced simple plan, happenings).
-use Rattle.std.specs.Prelude.{ℕ, Bool, ◌&&◌, List, [], ◌∷◌, ◌++◌, map, slice_index_or, Option, Some, None, unwrap_or, ◌≡◌, MatchOption, IsSome}
-use Rattle.std.specs.List.{flat_map}
+-- Believed: timed plans, their lines, their steps and their happenings.
+-- A plan stands for its induced simple plan (Fox and Long 2003).
+use Rattle.std.specs.Prelude.{ℕ, Bool, ◌&&◌, nat_lt, if◌then◌else◌, IsTrue, List, [], ◌∷◌, ◌++◌, map, length, slice_index_or, Option, Some, None, unwrap_or, is_some, is_none}
+use Rattle.std.specs.List.{flat_map, list_all}
 use Rattle.std.specs.declared.cmp.Ordering.{Ordering}
 use Rattle.std.specs.declared.cmp.Ordering.TheVariants.{Less, Equal, Greater}
 use Rattle.rational.specs.Rational.{ℚ, zeroℚ, ◌+ℚ◌, cmp_ℚ}
@@ -9,7 +10,7 @@ use Rattle.task_types.specs.declared.plans.PlanLine.{PlanLine}
 use Rattle.task_types.specs.declared.actions.Action.{Action}
 use Rattle.task_types.specs.declared.actions.Snap.{Snap}
 use Rattle.task_types.specs.declared.actions.SnapKind.TheVariants.{Timed}
-use Rattle.task_types.specs.Numbers.{◌<?◌}
+use Rattle.task_types.specs.Tests.{◌<?◌}
 
 -- what stands where a number is out of range, which no number of a task is
 abbrev pub no_action : Action
@@ -29,9 +30,14 @@ snap_of task s = slice_index_or task.snaps s no_snap
 abbrev pub Plan : Type 0
 Plan = List PlanLine
 
--- A line is formed where it has a duration exactly where its action is durative.
-abbrev pub IsFormed : TaskParts → PlanLine → Type 0
-IsFormed task l = MatchOption (action_of task l.action).end (l.duration ≡ None) (λ _. IsSome l.duration)
+-- A line is formed where its action is one of the task, and it has a duration exactly where that action is durative.
+abbrev pub is_formed : TaskParts → PlanLine → Bool
+is_formed task l = nat_lt l.action (length task.actions)
+    && (if is_some (action_of task l.action).end then is_some l.duration else is_none l.duration)
+
+-- A plan is formed where each of its lines is.
+abbrev pub IsFormed : TaskParts → Plan → Type 0
+IsFormed task plan = IsTrue (list_all (is_formed task) plan)
 
 -- A line takes its duration, and no time where it has none.
 abbrev pub duration_of : PlanLine → ℚ
@@ -63,6 +69,10 @@ line_steps task l = record { time = l.at; snap = (action_of task l.action).start
 -- The plan steps are those of the lines, line by line.
 abbrev pub plan_steps : TaskParts → Plan → List Step
 plan_steps task plan = flat_map (line_steps task) plan
+
+-- how many plan steps a plan has
+abbrev pub step_count : TaskParts → Plan → ℕ
+step_count task plan = length (plan_steps task plan)
 
 -- The timed steps are the task's timed initial literals, one step a moment (Edelkamp and Hoffmann 2004).
 abbrev pub timed_steps : TaskParts → List Step

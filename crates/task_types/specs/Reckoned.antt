@@ -1,9 +1,11 @@
--- The sums and products that are reckoned in fractions of limited parts, by the happening to which they belong, and the first place where one is undefined. Nothing that says what a plan means cites this file.
-use Rattle.std.specs.Prelude.{ℕ, zero, suc, ◌+◌, ◌≡◌, ◌⊎◌, cond, ◌||◌, nat_lt, if◌then◌else◌, List, [], ◌∷◌, ◌++◌, map, length, Option, Some, None}
-use Rattle.std.specs.List.{AllByRecursion, flat_map, filter}
-use Rattle.rational.specs.Rational.{ℚ, zeroℚ, ◌+ℚ◌, ◌*ℚ◌, ◌-ℚ◌, neg_ℚ, inverse}
-use Rattle.exact_lin.specs.Reckoning.{wide_limit, CanAdd, CanMultiply}
-use Rattle.exact_lin.specs.Forms.{LinearForm, CanEvaluate}
+-- Believed: the sums, products and values that are reckoned for a plan, by the happening to which they belong.
+-- Nothing that says what a plan means cites this file.
+-- Where all of them are defined, and which place is the first where one isn't, exact_lin says of any list of places
+-- (`AllDefined` and `IsFirstUndefined` at `wide_limit`), with the law that there is one answer.
+use Rattle.std.specs.Prelude.{ℕ, zero, suc, ◌+◌, cond, ◌||◌, nat_lt, if◌then◌else◌, List, [], ◌∷◌, ◌++◌, map, length, Option, Some, None, option_to_list}
+use Rattle.std.specs.List.{flat_map, filter}
+use Rattle.rational.specs.Rational.{ℚ, zeroℚ, ◌*ℚ◌, ◌-ℚ◌, neg_ℚ, inverse}
+use Rattle.exact_lin.specs.Reckonings.{Reckoning, Sum, Product, Value, sums}
 use Rattle.task_types.specs.declared.conditions.Amount.{Amount}
 use Rattle.task_types.specs.declared.costs.LateCost.{LateCost}
 use Rattle.task_types.specs.declared.costs.Piece.{Piece}
@@ -12,7 +14,8 @@ use Rattle.task_types.specs.declared.costs.Soft.TheVariants as soft
 use Rattle.task_types.specs.declared.parts.Rules.{Rules}
 use Rattle.task_types.specs.declared.parts.TaskParts.{TaskParts}
 use Rattle.task_types.specs.declared.plans.PlanLine.{PlanLine}
-use Rattle.task_types.specs.Numbers.{◌≤?◌, last_or_else, numbers}
+use Rattle.task_types.specs.Tests.{◌≤?◌, last_or_else}
+use Rattle.task_types.specs.Sets.{numbers}
 use Rattle.task_types.specs.State.{State, value}
 use Rattle.task_types.specs.Plan.{Plan, Step, snap_of, action_of}
 use Rattle.task_types.specs.Course.{effect_of, assigned, increased, rates_of, runs_between, rate, time_of, steps_at, state_before, state_after, count, last_state, passed}
@@ -20,28 +23,13 @@ use Rattle.task_types.specs.Clash.{read_bounds}
 use Rattle.task_types.specs.Trace.{Trace, trace, first_moment}
 use Rattle.task_types.specs.Cost.{late_value, pieces_value, soft_cost, total_time}
 
--- A reckoning is a sum or a product of two exact numbers, or the value of a form, from its constant on, a product and a sum for each term.
-pub data Reckoning : Type 0 where
-  Sum : (q r : ℚ) → Reckoning
-  Product : (q r : ℚ) → Reckoning
-  Value : (form : LinearForm) (fluents : ℕ → ℚ) → Reckoning
+-- The end of a line is reckoned as its start plus its duration, where it has one.
+abbrev pub end_reckoned : PlanLine → List Reckoning
+end_reckoned l = map (λ d. Sum l.at d) (option_to_list l.duration)
 
--- It is defined where the reckoning in fractions of 128 bits is.
-abbrev pub IsDefined : Reckoning → Type 0
-IsDefined (Sum q r) = CanAdd wide_limit q r
-IsDefined (Product q r) = CanMultiply wide_limit q r
-IsDefined (Value form fluents) = CanEvaluate wide_limit form fluents
-
--- what a reckoning gives
-abbrev pub outcome : Reckoning → ℚ
-outcome (Sum q r) = q +ℚ r
-outcome (Product q r) = q *ℚ r
-outcome (Value form fluents) = value form fluents
-
--- Numbers are added one by one.
-abbrev pub sums : ℚ → List ℚ → List Reckoning
-sums q [] = []
-sums q (r ∷ rs) = Sum q r ∷ sums (q +ℚ r) rs
+-- The lines of a plan go by their numbers in the text.
+abbrev pub lines_reckoned : Plan → List (ℕ × List Reckoning)
+lines_reckoned plan = map (λ l. (l.line, end_reckoned l)) plan
 
 -- An amount is reckoned as its form, its factor times the duration, and their sum.
 abbrev pub amount_reckoned : Step → State → Amount → List Reckoning
@@ -106,7 +94,8 @@ move_to task plan k t = move_reckoned task plan (time_of task plan k) t (state_a
 abbrev pub move_at : TaskParts → Plan → ℕ → List Reckoning
 move_at task plan k = if nat_lt (k + 1) (count task plan) then move_to task plan k (time_of task plan (k + 1)) else []
 
--- What belongs to happening k in the whole course: the forms that its steps read, its effects, its time plus epsilon, the move to the next happening, and the over-all forms at both ends of that move.
+-- What belongs to happening k in the whole course: the forms that its steps read, its effects, its time plus epsilon,
+-- the move to the next happening, and the over-all forms at both ends of that move.
 abbrev pub whole_at : TaskParts → Rules → Plan → ℕ → List Reckoning
 whole_at task rules plan k = flat_map (read_reckoned task (state_before task plan k)) (steps_at task plan (time_of task plan k))
     ++ effects_at task plan k
@@ -134,14 +123,16 @@ abbrev pub at_some : {A : Type 0} → (A → List Reckoning) → Option A → Li
 at_some f None = []
 at_some f (Some x) = f x
 
--- what a soft term reckons: the comparisons of a goal preference, the value of a time cost and its product with the weight
+-- what a soft term reckons: the comparisons of a goal preference, the value of a time cost and its product with the
+-- weight
 abbrev pub soft_reckoned : Soft → Trace → State → List Reckoning
 soft_reckoned (soft.Trail c weight) xs last = []
 soft_reckoned (soft.Goal formula forms weight) xs last = map (λ e. Value e last.fluents) forms
 soft_reckoned (soft.Late formula c weight) xs last = late_reckoned c (first_moment formula xs) ++ (Product weight (late_value c (first_moment formula xs)) ∷ [])
 soft_reckoned (soft.Pieces formula ps weight) xs last = at_some (pieces_reckoned zeroℚ ps) (first_moment formula xs) ++ (Product weight (pieces_value ps (first_moment formula xs)) ∷ [])
 
--- The cost is reckoned as the total time times its factor, the form over the fluents, what the soft terms reckon, and then the sum from the constant on; a term that costs 0 adds 0, which is always defined.
+-- The cost is reckoned as the total time times its factor, the form over the fluents, what the soft terms reckon, and
+-- then the sum from the constant on; a term that costs 0 adds 0, which is always defined.
 abbrev pub cost_reckoned : TaskParts → Plan → List Reckoning
 cost_reckoned task plan =
     let last = last_state task plan in
@@ -150,15 +141,6 @@ cost_reckoned task plan =
     Product task.metric.last (total_time plan) ∷ Value task.metric.fluents last.fluents
     ∷ flat_map (λ s. soft_reckoned s (trace task plan) last) task.soft
     ++ sums task.metric.constant (timed ∷ fluents ∷ map (λ s. soft_cost s (trace task plan) last) task.soft)
-
--- The first undefined place, of a list of places, is the first at which not every reckoning is defined.
-abbrev pub IsFirstUndefined : {P : Type 0} → List (P × List Reckoning) → P → Type 0
-IsFirstUndefined [] p = ⊥
-IsFirstUndefined (x ∷ xs) p = (AllByRecursion IsDefined x.1 → ⊥) × (x.0 ≡ p) ⊎ AllByRecursion IsDefined x.1 × IsFirstUndefined xs p
-
--- Every reckoning of every place is defined.
-abbrev pub AllDefined : {P : Type 0} → List (P × List Reckoning) → Type 0
-AllDefined places = AllByRecursion (λ x. AllByRecursion IsDefined x.1) places
 
 -- The course up to the state before happening k has the effects of the happenings before it, and their moves.
 abbrev pub course_before : TaskParts → Plan → ℕ → List (ℕ × List Reckoning)
@@ -176,7 +158,8 @@ course_reaching task plan (suc k) t = course_before task plan k ++ ((k, effects_
 abbrev pub course_at : TaskParts → Plan → ℚ → List (ℕ × List Reckoning)
 course_at task plan t = course_reaching task plan (passed task plan t) t
 
--- The course of a cost goes up to the last state, and the cost's own reckonings belong to the place after the last happening.
+-- The course of a cost goes up to the last state, and the cost's own reckonings belong to the place after the last
+-- happening.
 abbrev pub course_of_cost : TaskParts → Plan → List (ℕ × List Reckoning)
 course_of_cost task plan = course_before task plan (count task plan) ++ ((count task plan, cost_reckoned task plan) ∷ [])
 

@@ -5,7 +5,7 @@ use Rattle.task_types.specs.declared.actions.Snap.{Snap}
 use Rattle.task_types.specs.declared.parts.TaskParts.{TaskParts}
 use Rattle.task_types.specs.declared.touches.relations.Relation.{Relation}
 use Rattle.task_types.specs.declared.touches.relations.Relation.TheVariants.{LookedFacts, ChangedFacts, LookedFluents, WrittenFluents, BentFluents, OwnAction}
-use Rattle.task_types.specs.Numbers.{is_in}
+use Rattle.task_types.specs.Sets.{is_in}
 use Rattle.task_types.specs.Plan.{snap_of}
 use Rattle.task_types.specs.Clash.{condition_facts, condition_fluents, read_facts, changed_facts, read_fluents, written_fluents}
 use Rattle.task_types.specs.declared.touches.index.Index.{Index}

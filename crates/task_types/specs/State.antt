@@ -1,4 +1,5 @@
--- A state, the value of a form in it, and what holds in it (Fox and Long 2003: states, and satisfaction of propositions).
+-- Believed: a state, the value of a form in it, and what holds in it.
+-- States and satisfaction are those of Fox and Long 2003.
 use Rattle.std.specs.Prelude.{ℕ, Bool, true, not, ◌&&◌, if◌then◌else◌}
 use Rattle.std.specs.List.{list_all, list_any}
 use Rattle.rational.specs.Rational.{ℚ, zeroℚ}
@@ -7,7 +8,7 @@ use Rattle.task_types.specs.declared.conditions.Literal.{Literal}
 use Rattle.task_types.specs.declared.conditions.Condition.{Condition}
 use Rattle.task_types.specs.declared.formulas.FactTree.{FactTree, fold-FactTree}
 use Rattle.task_types.specs.declared.formulas.FactTree.TheOpen.{FactTree-F}
-use Rattle.task_types.specs.Numbers.{◌≤?◌}
+use Rattle.task_types.specs.Tests.{◌≤?◌}
 
 -- A state tells which facts hold, and the value of each fluent; facts and fluents go by their numbers.
 pub record State : Type 0 where

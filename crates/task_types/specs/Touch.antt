@@ -1,4 +1,5 @@
--- Tokens, and how snap actions touch them: what ties two steps of an ordering together. This table is the project's own; it keeps starts and ends apart from steps that change their over-all conditions, which PDDL doesn't ask for.
+-- Believed: tokens, and how snap actions touch them: what ties two steps of an ordering together.
+-- The table is this project's own; docs/ORDERINGS.md says why it is so, and where it asks for more than PDDL does.
 use Rattle.std.specs.Prelude.{ℕ, Bool, true, false, List, [], ◌∷◌, ◌++◌, map, length, if◌then◌else◌, option_to_list, is_some}
 use Rattle.std.specs.List.{filter, flat_map, enumerate_from}
 use Rattle.task_types.specs.declared.actions.Action.{Action}
@@ -16,7 +17,7 @@ use Rattle.task_types.specs.declared.tokens.Touch.TheVariants.{Look, Mark, Bend}
 use Rattle.task_types.specs.declared.tokens.Token.{Token}
 use Rattle.task_types.specs.declared.tokens.Token.TheVariants as token
 use Rattle.task_types.specs.declared.parts.TaskParts.{TaskParts}
-use Rattle.task_types.specs.Numbers.{is_in, meet, are_several, numbers}
+use Rattle.task_types.specs.Sets.{is_in, meet, are_several, numbers}
 use Rattle.task_types.specs.Plan.{action_of, snap_of}
 use Rattle.task_types.specs.Clash.{form_fluents, condition_facts, condition_fluents, read_facts, changed_facts, read_fluents, assigned_fluents, written_fluents}
 
@@ -60,11 +61,13 @@ snap_tracked s = condition_fluents s.condition ++ flat_map (λ e. form_fluents e
 abbrev pub action_tracked : Action → List ℕ
 action_tracked a = condition_fluents a.over_all ++ flat_map (λ b. form_fluents b.form) a.bounds
 
--- A fluent is tracked where a condition, an effect expression, a duration bound, the goal or a preference reads it, or an effect assigns it; any other fluent is a meter, which nothing but the cost reads.
+-- A fluent is tracked where a condition, an effect expression, a duration bound, the goal or a preference reads it, or
+-- an effect assigns it; any other fluent is a meter, which nothing but the cost reads.
 abbrev pub tracked_fluents : TaskParts → List ℕ
 tracked_fluents task = flat_map snap_tracked task.snaps ++ flat_map action_tracked task.actions ++ condition_fluents task.goal ++ flat_map soft_fluents task.soft
 
--- A step looks at what its condition, effect expressions and duration bounds read, and at the facts, fluents and groups of the over-all condition of its action.
+-- A step looks at what its condition, effect expressions and duration bounds read, and at the facts, fluents and groups
+-- of the over-all condition of its action.
 abbrev pub looks : TaskParts → Snap → Token → Bool
 looks task s (token.Fact f) = is_in f (read_facts s ++ flat_map condition_facts (watches task s))
 looks task s (token.Fluent f) = is_in f (read_fluents task s ++ flat_map condition_fluents (watches task s))
@@ -72,7 +75,8 @@ looks task s (token.Comparison a fluents) = is_in a (started_or_ended s)
 looks task s (token.Formulas facts) = false
 looks task s (token.Action a) = false
 
--- A step marks the facts that it adds or deletes and the fluents that it assigns or increases, the groups that hold one of these, and the action that it starts or ends.
+-- A step marks the facts that it adds or deletes and the fluents that it assigns or increases, the groups that hold one
+-- of these, and the action that it starts or ends.
 abbrev pub marks : TaskParts → Snap → Token → Bool
 marks task s (token.Fact f) = is_in f (changed_facts s)
 marks task s (token.Fluent f) = is_in f (written_fluents s)
@@ -113,7 +117,8 @@ soft_facts (soft.Pieces formula ps w) = tree_facts formula
 abbrev pub comparison_tokens : ℕ → Action → List Token
 comparison_tokens a action = map (λ form. token.Comparison a (form_fluents form)) (filter (λ form. are_several (form_fluents form)) action.over_all.comparisons)
 
--- The tokens, numbered from 0: each fact, each tracked fluent, the groups of the over-all comparisons with two or more fluents, the groups of the hard constraints and soft terms with two or more facts, and each durative action.
+-- The tokens, numbered from 0: each fact, each tracked fluent, the groups of the over-all comparisons with two or more
+-- fluents, the groups of the hard constraints and soft terms with two or more facts, and each durative action.
 unfoldable pub tokens : TaskParts → List Token
 tokens task = map token.Fact (numbers (length task.facts))
     ++ map token.Fluent (filter (λ f. is_in f (tracked_fluents task)) (numbers (length task.fluents)))

@@ -1,5 +1,6 @@
--- The trace of a plan, and what trajectory constraints ask of it (Gerevini and Long 2005: the semantics of the modal operators over a trajectory of states).
-use Rattle.std.specs.Prelude.{ℕ, ◌-◌, Bool, false, ◌&&◌, nat_le, List, ◌∷◌, map, length, slice_get, Option, Some, None}
+-- Believed: the trace of a plan, and what trajectory constraints ask of it.
+-- After Gerevini and Long 2005: the modal operators over a trajectory of states.
+use Rattle.std.specs.Prelude.{ℕ, ◌-◌, Bool, false, ◌&&◌, nat_le, List, ◌∷◌, map, length, slice_get, position, Option, Some, None}
 use Rattle.std.specs.List.{find}
 use Rattle.std.specs.Option.{option_map}
 use Rattle.rational.specs.Rational.{ℚ, zeroℚ}
@@ -8,7 +9,8 @@ use Rattle.task_types.specs.declared.constraints.TrailKind.{TrailKind}
 use Rattle.task_types.specs.declared.constraints.TrailKind.TheVariants.{Always, Sometime, Within, AtMostOnce, SometimeAfter, SometimeBefore, AtEnd}
 use Rattle.task_types.specs.declared.formulas.FactTree.{FactTree}
 use Rattle.task_types.specs.declared.parts.TaskParts.{TaskParts}
-use Rattle.task_types.specs.Numbers.{◌≤?◌, every, some, ◌⇒◌, numbers}
+use Rattle.task_types.specs.Tests.{◌≤?◌, every, some, ◌⇒◌}
+use Rattle.task_types.specs.Sets.{numbers}
 use Rattle.task_types.specs.State.{tree_holds}
 use Rattle.task_types.specs.Plan.{Plan}
 use Rattle.task_types.specs.Course.{initial, state_after, time_of, count}
@@ -34,10 +36,12 @@ is_some_and p (Some x) = p x
 abbrev pub at : {A : Type 0} → List A → ℕ → (A → Bool) → Bool
 at xs k p = is_some_and p (slice_get xs k)
 
--- What a constraint asks of n states, numbered from 0, where a and b tell in which of them its two formulas hold, and soon which of them come no later than its moment:
+-- What a constraint asks of n states, numbered from 0, where a and b tell in which of them its two formulas hold, and
+-- soon which of them come no later than its moment:
 -- `always`, each state; `sometime`, some state; `within`, some state that comes soon enough;
 -- `at-most-once`, that the formula holds in each state between two in which it holds;
--- `sometime-after`, for each state with a one there or later with b; `sometime-before`, for each state with a one strictly earlier with b;
+-- `sometime-after`, for each state with a one there or later with b; `sometime-before`, for each state with a one
+-- strictly earlier with b;
 -- `at end`, the last state.
 abbrev pub kept : TrailKind → ℕ → (a b soon : ℕ → Bool) → Bool
 kept Always n a b soon = every n a
@@ -51,6 +55,11 @@ kept AtEnd n a b soon = a (n - 1)
 -- A trace meets a constraint where its states are as the constraint asks.
 unfoldable pub met : Trail → Trace → Bool
 met c xs = kept c.kind (length xs) (λ k. at xs k (λ m. tree_holds c.first m.facts)) (λ k. at xs k (λ m. tree_holds c.second m.facts)) (λ k. at xs k (λ m. m.time ≤? c.moment))
+
+-- The first state of a formula is the number of the first state of the trace in which it holds; the initial state has
+-- number 0.
+unfoldable pub first_state : FactTree → Trace → Option ℕ
+first_state formula xs = position (λ m. tree_holds formula m.facts) xs
 
 -- The first moment of a formula is the time of the first state of the trace in which it holds.
 unfoldable pub first_moment : FactTree → Trace → Option ℚ

@@ -1,7 +1,9 @@
--- Valid plans, and the first reason why a plan isn't valid (Fox and Long 2003: executability and validity of a plan, invariants of durative actions).
-use Rattle.std.specs.Prelude.{ℕ, Bool, true, ◌&&◌, ◌||◌, if◌then◌else◌, IsTrue, ◌⊎◌, ◌≡◌, List, [], ◌∷◌, ◌++◌, map, Option, Some, None}
+-- Believed: valid plans, and the first reason why a plan isn't valid.
+-- After Fox and Long 2003: executability and validity of a plan, invariants of durative actions.
+use Rattle.std.specs.Prelude.{ℕ, Bool, true, ◌&&◌, ◌||◌, if◌then◌else◌, IsTrue, List, [], ◌∷◌, ◌++◌, map, Option, Some, None}
 use Rattle.std.specs.List.{list_all, AllByRecursion, enumerate_from}
 use Rattle.rational.specs.Rational.{ℚ, zeroℚ, ◌+ℚ◌, ◌<ℚ◌}
+use Rattle.basics.specs.Duties.{Duty, duty, IsFirstUnmet}
 use Rattle.task_types.specs.declared.parts.Rules.{Rules}
 use Rattle.task_types.specs.declared.actions.Bound.{Bound}
 use Rattle.task_types.specs.declared.conditions.Condition.{Condition}
@@ -9,12 +11,17 @@ use Rattle.task_types.specs.declared.parts.TaskParts.{TaskParts}
 use Rattle.task_types.specs.declared.plans.PlanLine.{PlanLine}
 use Rattle.task_types.specs.declared.plans.Reason.{Reason}
 use Rattle.task_types.specs.declared.plans.Reason.TheVariants as reason
-use Rattle.task_types.specs.Numbers.{◌≤?◌, ◌⇒◌}
+use Rattle.task_types.specs.Tests.{◌≤?◌, ◌⇒◌}
 use Rattle.task_types.specs.State.{value, holds}
-use Rattle.task_types.specs.Plan.{Plan, Step, action_of, snap_of, end_of, line_steps, plan_steps, timed_steps, happenings}
+use Rattle.task_types.specs.Plan.{Plan, Step, IsFormed, action_of, snap_of, end_of, line_steps, plan_steps, timed_steps, happenings}
 use Rattle.task_types.specs.Course.{before, after, last_state}
 use Rattle.task_types.specs.Clash.{clash}
 use Rattle.task_types.specs.Trace.{trace, met}
+
+-- Rules are positive where the least distance of clashing steps and the horizon are above 0.
+pub record ArePositive (rules : Rules) : Type 0 where
+  pub epsilon : zeroℚ <ℚ rules.epsilon
+  pub horizon : zeroℚ <ℚ rules.horizon
 
 -- First: a line is in time where its start and its end are from 0 to the horizon.
 abbrev pub is_in_time : Rules → PlanLine → Bool
@@ -64,7 +71,8 @@ end_holds task plan l (Some s) = holds (snap_of task s).condition (before task p
 abbrev pub can_end : TaskParts → Plan → PlanLine → Bool
 can_end task plan l = end_holds task plan l (action_of task l.action).end
 
--- A condition holds within two times where it holds at every instant strictly between them, and at a happening among these both in the state before and in the state after.
+-- A condition holds within two times where it holds at every instant strictly between them, and at a happening among
+-- these both in the state before and in the state after.
 abbrev pub HoldsWithin : TaskParts → Plan → Condition → ℚ → ℚ → Type 0
 HoldsWithin task plan c from to = (t : ℚ) → from <ℚ t → t <ℚ to → IsTrue (holds c (before task plan t)) × IsTrue (holds c (after task plan t))
 
@@ -72,8 +80,10 @@ HoldsWithin task plan c from to = (t : ℚ) → from <ℚ t → t <ℚ to → Is
 abbrev pub HoldsOverAll : TaskParts → Plan → PlanLine → Type 0
 HoldsOverAll task plan l = HoldsWithin task plan (action_of task l.action).over_all l.at (end_of l)
 
--- A plan is valid where all eight hold; seventh, the goal holds in the last state, and eighth, the trace meets each hard constraint.
+-- A plan is valid where it is formed and all eight hold; seventh, the goal holds in the last state, and eighth, the
+-- trace meets each hard constraint.
 pub record Valid (task : TaskParts) (rules : Rules) (plan : Plan) : Type 0 where
+  pub formed : IsFormed task plan
   pub in_time : IsTrue (list_all (is_in_time rules) plan)
   pub durations : IsTrue (list_all (has_fit_duration task rules plan) plan)
   pub apart : IsTrue (are_kept_apart task rules plan)
@@ -83,16 +93,8 @@ pub record Valid (task : TaskParts) (rules : Rules) (plan : Plan) : Type 0 where
   pub goal : IsTrue (holds task.goal (last_state task plan))
   pub constraints : IsTrue (list_all (λ c. met c (trace task plan)) task.hard)
 
--- A duty is what a plan has to meet at one place, and the reason where it doesn't.
-pub record Duty : Type 1 where
-  pub reason : Reason
-  pub Met : Type 0
-
-abbrev pub duty : Reason → Bool → Duty
-duty r b = record { reason = r; Met = IsTrue b }
-
 -- the clashes of each line: within itself, then with each later line, then with each timed step
-abbrev pub clash_duties : TaskParts → Rules → Plan → List Duty
+abbrev pub clash_duties : TaskParts → Rules → Plan → List (Duty Reason)
 clash_duties task rules [] = []
 clash_duties task rules (l ∷ ls) = duty (reason.Clash l.line l.line) (each_apart task rules (line_steps task l))
     ∷ map (λ m. duty (reason.Clash l.line m.line) (all_apart task rules (line_steps task l) (line_steps task m))) ls
@@ -106,15 +108,16 @@ segments (t ∷ []) = []
 segments (t ∷ u ∷ us) = (t, u) ∷ segments (u ∷ us)
 
 -- the over-all condition of a line, on each segment between adjacent happenings that lies in the line
-abbrev pub line_over_alls : TaskParts → Plan → PlanLine → List Duty
-line_over_alls task plan l = map (λ g. record { reason = reason.OverAll l.line g.0 g.1; Met = IsTrue ((l.at ≤? g.0) && (g.1 ≤? end_of l)) → HoldsWithin task plan (action_of task l.action).over_all g.0 g.1 }) (segments (happenings task plan))
+abbrev pub line_over_alls : TaskParts → Plan → PlanLine → List (Duty Reason)
+line_over_alls task plan l = map (λ g. record { fault = reason.OverAll l.line g.0 g.1; Met = IsTrue ((l.at ≤? g.0) && (g.1 ≤? end_of l)) → HoldsWithin task plan (action_of task l.action).over_all g.0 g.1 }) (segments (happenings task plan))
 
-abbrev pub over_alls : TaskParts → Plan → List PlanLine → List Duty
+abbrev pub over_alls : TaskParts → Plan → List PlanLine → List (Duty Reason)
 over_alls task plan [] = []
 over_alls task plan (l ∷ ls) = line_over_alls task plan l ++ over_alls task plan ls
 
--- The duties of a plan are the eight conditions, each line by line or place by place, in the order in which reasons count.
-unfoldable pub duties : TaskParts → Rules → Plan → List Duty
+-- The duties of a formed plan are the eight conditions, each line by line or place by place, in the order in which
+-- reasons count.
+unfoldable pub duties : TaskParts → Rules → Plan → List (Duty Reason)
 duties task rules plan = map (λ l. duty (reason.Time l.line) (is_in_time rules l)) plan
     ++ map (λ l. duty (reason.Duration l.line) (has_fit_duration task rules plan l)) plan
     ++ clash_duties task rules plan
@@ -123,11 +126,6 @@ duties task rules plan = map (λ l. duty (reason.Time l.line) (is_in_time rules 
     ++ over_alls task plan plan
     ++ (duty reason.Goal (holds task.goal (last_state task plan)) ∷ [])
     ++ map (λ c. duty (reason.Constraint c.0) (met c.1 (trace task plan))) (enumerate_from 1 task.hard)
-
--- the reason of the first duty that isn't met
-abbrev pub IsFirstUnmet : List Duty → Reason → Type 0
-IsFirstUnmet [] r = ⊥
-IsFirstUnmet (d ∷ ds) r = (d.Met → ⊥) × (d.reason ≡ r) ⊎ d.Met × IsFirstUnmet ds r
 
 -- The first reason why a plan isn't valid is that of its first duty that isn't met.
 abbrev pub IsFirstReason : TaskParts → Rules → Plan → Reason → Type 0

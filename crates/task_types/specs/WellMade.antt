@@ -1,4 +1,4 @@
--- What every task keeps: ids in range, snap actions numbered action by action, and what grounding promises of each part.
+-- Believed: what every task keeps: ids in range, numbered snap actions, and what grounding promises of each part.
 use Rattle.std.specs.Prelude.{ℕ, ◌+◌, Bool, true, false, not, ◌&&◌, ◌||◌, ◌==◌, nat_lt, nat_le, if◌then◌else◌, IsTrue, List, [], ◌∷◌, map, length, sum, Option, Some, None, is_none, is_some}
 use Rattle.std.specs.List.{list_all, list_any}
 use Rattle.std.specs.Str.{bytes_eq}
@@ -19,7 +19,8 @@ use Rattle.task_types.specs.declared.costs.Soft.TheVariants as soft
 use Rattle.task_types.specs.declared.formulas.FactTree.{FactTree, fold-FactTree}
 use Rattle.task_types.specs.declared.formulas.FactTree.TheOpen.{FactTree-F}
 use Rattle.task_types.specs.declared.parts.TaskParts.{TaskParts}
-use Rattle.task_types.specs.Numbers.{◌<?◌, ◌≤?◌, ◌=?◌, are_distinct}
+use Rattle.task_types.specs.Tests.{◌<?◌, ◌≤?◌, ◌=?◌}
+use Rattle.task_types.specs.Sets.{are_distinct}
 use Rattle.task_types.specs.Clash.{form_fluents, assigned_fluents}
 use Rattle.task_types.specs.Touch.{is_timed, is_start_or_end}
 use Rattle.task_types.specs.Trace.{at}
@@ -80,7 +81,8 @@ abbrev pub is_action : TaskParts → Option ℕ → Bool
 is_action task None = true
 is_action task (Some a) = nat_lt a (length task.actions)
 
--- A snap action fits where its parts do, it assigns no fluent twice, it has rates only as a start, it changes facts alone where it is timed, and its action is one of the task.
+-- A snap action fits where its parts do, it assigns no fluent twice, it has rates only as a start, it changes facts
+-- alone where it is timed, and its action is one of the task.
 abbrev pub snap_fits : TaskParts → Snap → Bool
 snap_fits task s = condition_fits task s.condition && effect_fits task s.kind s.effect
     && are_distinct (assigned_fluents s)
@@ -105,7 +107,8 @@ is_name_byte b = is_letter b || (nat_le 48 b && nat_le b 57) || b == 45 || b == 
 abbrev pub name_limit : ℕ
 name_limit = 64
 
--- A name begins with a letter, goes on with letters, digits, minuses and underscores, is in lower case, and has at most 64 bytes.
+-- A name begins with a letter, goes on with letters, digits, minuses and underscores, is in lower case, and has at most
+-- 64 bytes.
 abbrev pub is_name : List ℕ → Bool
 is_name [] = false
 is_name (b ∷ bs) = is_letter b && list_all is_name_byte bs && nat_lt (length bs) name_limit
@@ -207,7 +210,8 @@ abbrev pub pieces_rise : ℚ → ℚ → List Piece → Bool
 pieces_rise until to [] = true
 pieces_rise until to (p ∷ ps) = (until <? p.until) && (to ≤? p.from) && (p.from ≤? p.to) && pieces_rise p.until p.to ps
 
--- A soft term fits where its parts do and its weight is at least 0; a time cost in three numbers has 0 ≤ soft < hard and 0 ≤ top, one in pieces has 1 to 16 of them, which rise.
+-- A soft term fits where its parts do and its weight is at least 0; a time cost in three numbers has 0 ≤ soft < hard
+-- and 0 ≤ top, one in pieces has 1 to 16 of them, which rise.
 abbrev pub soft_fits : TaskParts → Soft → Bool
 soft_fits task (soft.Trail c weight) = trail_fits task c && (zeroℚ ≤? weight)
 soft_fits task (soft.Goal formula forms weight) = tree_fits task formula && forms_fit task forms && (zeroℚ ≤? weight)

@@ -2,7 +2,7 @@
 
 ghost use Rattle.std.specs.Prelude.{◌≡◌, ◌++◌, ◌<◌, ◌^◌, false, map, length, slice_index_or, OnOk, IfOk, is_some, [], ◌∷◌, if◌then◌else◌};
 ghost use Rattle.std.specs.List.{flat_map, filter, enumerate_from};
-ghost use Rattle.task_types.specs.Numbers.{numbers, are_several, is_in};
+ghost use Rattle.task_types.specs.Sets.{numbers, are_several, is_in};
 ghost use Rattle.task_types.specs.Clash.{form_fluents};
 ghost use Rattle.task_types.specs.Touch.{tracked_fluents, tree_facts, trail_facts, soft_facts, comparison_tokens, tokens};
 

@@ -2,7 +2,7 @@ use Rattle.std.proofs.Common.{◌≡◌, ◌++◌, map, false}
 use Rattle.std.specs.Prelude.{slice_index_or}
 use Rattle.std.specs.List.{filter}
 use Rattle.task_types.specs.declared.tokens.Token.TheVariants as token
-use Rattle.task_types.specs.Numbers.{numbers}
+use Rattle.task_types.specs.Sets.{numbers}
 use Rattle.task_types.proofs.touches.tokens.push_fluent_tokens.Given as goal
 
 abbrev pub invariant-loop-fluent : goal.invariant-loop-fluent

@@ -1,7 +1,7 @@
 use Rattle.std.proofs.Common.{◌≡◌, ◌++◌, take, map}
 use Rattle.std.specs.List.{filter}
 use Rattle.task_types.specs.declared.tokens.Token.TheVariants as token
-use Rattle.task_types.specs.Numbers.{are_several}
+use Rattle.task_types.specs.Sets.{are_several}
 use Rattle.task_types.specs.Touch.{soft_facts}
 use Rattle.task_types.proofs.touches.tokens.push_soft_tokens.Given as goal
 

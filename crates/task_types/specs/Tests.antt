@@ -1,6 +1,5 @@
--- Tests on exact numbers, sums of lists, tests of each or some number below a bound, and lists of numbers as sets.
-use Rattle.std.specs.Prelude.{ℕ, zero, suc, Bool, true, false, not, ◌&&◌, ◌||◌, ◌==◌, List, [], ◌∷◌}
-use Rattle.std.specs.List.{list_any, range_with_len}
+-- Believed: tests on exact numbers, sums of lists, and tests of each or some number below a bound.
+use Rattle.std.specs.Prelude.{ℕ, zero, suc, Bool, true, false, not, ◌&&◌, ◌||◌, List, [], ◌∷◌}
 use Rattle.std.specs.declared.cmp.Ordering.{Ordering}
 use Rattle.std.specs.declared.cmp.Ordering.TheVariants.{Less, Equal, Greater}
 use Rattle.rational.specs.Rational.{ℚ, zeroℚ, ◌+ℚ◌, cmp_ℚ}
@@ -52,24 +51,3 @@ infixr 4 ◌⇒◌
 -- b holds where a does
 abbrev pub ◌⇒◌ : Bool → Bool → Bool
 a ⇒ b = not a || b
-
--- 0, 1, .. below n
-abbrev pub numbers : ℕ → List ℕ
-numbers n = range_with_len 0 n
-
--- the number is in the list
-abbrev pub is_in : ℕ → List ℕ → Bool
-is_in x ys = list_any (λ y. y == x) ys
-
--- the two lists have a number in common
-abbrev pub meet : List ℕ → List ℕ → Bool
-meet xs ys = list_any (λ x. is_in x ys) xs
-
--- no number stands twice
-abbrev pub are_distinct : List ℕ → Bool
-are_distinct [] = true
-are_distinct (x ∷ xs) = not (is_in x xs) && are_distinct xs
-
--- two different numbers stand in the list
-abbrev pub are_several : List ℕ → Bool
-are_several xs = list_any (λ x. list_any (λ y. not (y == x)) xs) xs
