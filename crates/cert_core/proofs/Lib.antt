@@ -11,4 +11,4 @@ pub mod Counting
 pub mod TreeParts
 pub mod Heights
 pub mod Grounded
-pub mod SingleLeaf
+pub mod NumberedLeaves

@@ -1,6 +1,7 @@
 -- A tree whose leaves prove their parts bounds the cost of every solution under every complete list of decisions.
-use Rattle.std.proofs.Common.{◌≡◌, ℕ, suc, ◌+◌, ◌<◌, ◌≤◌, refl, ap, subst, Bool, true, false, Option, Some, None, List, [], ◌∷◌, ◌++◌, length, map, arith, ◌⊎◌, inl, inr, ⊎_elim, if◌then◌else◌, ◌&&◌, nat_lt, nat_eq}
+use Rattle.std.proofs.Common.{◌≡◌, ℕ, ◌+◌, ◌<◌, ◌≤◌, refl, subst, Bool, true, false, Option, Some, None, List, [], ◌∷◌, ◌++◌, length, map, arith, ◌⊎◌, inl, inr, ⊎_elim, if◌then◌else◌, ◌&&◌, nat_lt, nat_eq}
 use Rattle.std.specs.List.{AllByRecursion}
+use Rattle.std.proofs.lemmas.List.{length-map}
 use Rattle.std.proofs.lemmas.Bool.Decides.{nat_tests}
 use Rattle.rational.specs.Rational.{ℚ, ◌≤ℚ◌}
 use Rattle.rational.specs.Lists.{dot}
@@ -71,10 +72,6 @@ module _ {T R S : Type 0} (term : T → ℕ) (row : R → ℕ) (value : S → �
       go true e = grind (arith, nat_tests)
       go false e = grind (arith, nat_tests)
 
-  length-leaves : (cs : List (DualTree T R S)) → length (map (leaves_of term row value p q) cs) ≡ length cs
-  length-leaves [] = refl
-  length-leaves (c ∷ cs) = ap suc (length-leaves cs)
-
   bounds_children : (made : Decisions) → AreDecisions p made → (t : ℕ) (c : DualTree T R S) (cs : List (DualTree T R S)) → AllByRecursion Bounds (c ∷ cs) → (b : Bool) → is_fit p made t (length (map (leaves_of term row value p q) (c ∷ cs))) ≡ b
       → ProvesTree p (child_leaves (if b then None else Some t) made t 0 (map (leaves_of term row value p q) (c ∷ cs)))
       → (full : Decisions) → AreDecisions p full → IsComplete p full → IsMore made full → (x : List ℚ) → Solves (program_under p full) x → q ≤ℚ cost_at (program_under p full) x
@@ -84,7 +81,7 @@ module _ {T R S : Type 0} (term : T → ℕ) (row : R → ℕ) (value : S → �
       let taken = k t fit.0 in
       let below : taken.0 < ways_of p t = f.in_range t taken.0 taken.1 in
       bounds_child full f k x s made t taken.0 (decide-AreDecisions p made t taken.0 d fit.0 below) (decide-IsMore made full t taken.0 (omega (arith, d.one_each, fit.0)) m taken.1)
-      (c ∷ cs) a 0 (omega arith) (omega (arith, length-leaves (c ∷ cs), fit.1, below)) proof
+      (c ∷ cs) a 0 (omega arith) (omega (arith, length-map (c ∷ cs) (leaves_of term row value p q), fit.1, below)) proof
 
   bounds_split : IsLawful p → (t : T) (children : List (DualTree T R S)) → AllByRecursion Bounds children → Bounds (tree.Split t children)
   bounds_split l t [] a made d proof full f k m x s = absurd (subst (λ (g : Above → List Leaf). ProvesTree p (g (top made))) (leaves_of-split term row value p q t []) proof).0

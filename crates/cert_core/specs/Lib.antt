@@ -5,4 +5,5 @@ pub mod Checks
 pub mod Faults
 pub mod Soft
 pub mod Trees
+pub mod LeafWalks
 pub mod Listed
