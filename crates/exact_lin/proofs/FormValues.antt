@@ -2,7 +2,7 @@
 use Rattle.std.proofs.Common.{◌≡◌, ℕ, ◌<◌, sym, ◌∙◌, ap, subst, List, [], ◌∷◌, length, map, get_or}
 use Rattle.std.proofs.lemmas.List.{get_or-map}
 use Rattle.rational.specs.Rational.{ℚ, zeroℚ, ◌+ℚ◌, ◌*ℚ◌}
-use Rattle.rational.proofs.Field.{add_assocℚ, add_commℚ, zero_addℚ}
+use Rattle.rational.proofs.Field.{add_assoc, add_comm, zero_add}
 use Rattle.exact_lin.specs.Reckoning.{CanAdd, CanMultiply}
 use Rattle.exact_lin.specs.Forms.{Terms, Covers, terms_at, values_of, CanSumTerms}
 
@@ -17,7 +17,7 @@ pub advance : (limit size : ℕ) (x : ℕ → ℚ) (start : ℚ) (all : Terms) (
     → value ≡ x n → CanMultiply limit c value → product ≡ c *ℚ value → CanAdd limit sum product → next ≡ sum +ℚ product
     → Summing limit size x start all sum ((n, c) ∷ ts) → Summing limit size x start all next ts
 advance limit size x start all sum product next c value n ts here can is fits then s = record {
-  value = ap (λ q. q +ℚ terms_at ts x) next-is ∙ add_assocℚ sum (c *ℚ x n) (terms_at ts x) ∙ s.value;
+  value = ap (λ q. q +ℚ terms_at ts x) next-is ∙ add_assoc sum (c *ℚ x n) (terms_at ts x) ∙ s.value;
   covered = s.covered.1;
   enough = λ h. s.enough (subst (λ (q : ℚ). CanMultiply limit c q) here can, subst (λ (q : ℚ). CanAdd limit sum q) product-is fits, subst (λ (q : ℚ). CanSumTerms limit q ts x) next-is h);
   needed = λ h. subst (λ (q : ℚ). CanSumTerms limit q ts x) (sym next-is) (s.needed h).2;
@@ -35,7 +35,7 @@ point-value f xs i n p e h is = ap f (is ∙ ap (λ (k : ℕ). get_or xs k p) e)
 
 -- the sum of the terms after the last
 pub sum_end : (q : ℚ) → q +ℚ zeroℚ ≡ q
-sum_end q = add_commℚ q zeroℚ ∙ zero_addℚ q
+sum_end q = add_comm q zeroℚ ∙ zero_add q
 
 pub ended : (limit size : ℕ) (x : ℕ → ℚ) (start : ℚ) (all : Terms) (sum : ℚ) → Summing limit size x start all sum [] → CanSumTerms limit start all x × (sum ≡ start +ℚ terms_at all x)
 ended limit size x start all sum s = (s.enough tt, sym (sum_end sum) ∙ s.value)

@@ -335,11 +335,11 @@ impl PartialOrd for Fraction {
     ghost use Rattle.std.specs.Prelude.{Some};
     ghost use Rattle.std.specs.Cmp.{po};
     ghost use Rattle.rational.specs.Rational.{cmp_ℚ};
-    ghost use Rattle.rational.proofs.Compare.{cmp_ℚ_total, tiesℚ};
+    ghost use Rattle.rational.proofs.Comparisons.{cmp_total, cmp_ties};
 
     ghost partial_cmp = { λ a b. Some (cmp_ℚ a b) };
 
-    ghost laws = { po cmp_ℚ_total tiesℚ };
+    ghost laws = { po cmp_total cmp_ties };
 
     fn partial_cmp(&self, other: &Fraction) -> Option<Ordering> {
         Some(self.order(*other))
@@ -349,15 +349,15 @@ impl PartialOrd for Fraction {
 impl Ord for Fraction {
     ghost use Rattle.std.specs.Prelude.{refl};
     ghost use Rattle.rational.specs.Rational.{cmp_ℚ};
-    ghost use Rattle.rational.proofs.Compare.{cmp_ℚ_total, tiesℚ};
+    ghost use Rattle.rational.proofs.Comparisons.{cmp_total, cmp_ties};
 
     ghost cmp = { cmp_ℚ };
 
-    ghost total = { cmp_ℚ_total };
+    ghost total = { cmp_total };
 
     ghost matches_partial_cmp = { λ a b. refl };
 
-    ghost matches_eq = { tiesℚ };
+    ghost matches_eq = { cmp_ties };
 
     fn cmp(&self, other: &Fraction) -> Ordering {
         self.order(*other)
@@ -368,11 +368,11 @@ impl PartialOrd for Narrow {
     ghost use Rattle.std.specs.Prelude.{Some};
     ghost use Rattle.std.specs.Cmp.{po};
     ghost use Rattle.rational.specs.Rational.{cmp_ℚ};
-    ghost use Rattle.rational.proofs.Compare.{cmp_ℚ_total, tiesℚ};
+    ghost use Rattle.rational.proofs.Comparisons.{cmp_total, cmp_ties};
 
     ghost partial_cmp = { λ a b. Some (cmp_ℚ a b) };
 
-    ghost laws = { po cmp_ℚ_total tiesℚ };
+    ghost laws = { po cmp_total cmp_ties };
 
     fn partial_cmp(&self, other: &Narrow) -> Option<Ordering> {
         Some(self.widen().order(other.widen()))
@@ -382,15 +382,15 @@ impl PartialOrd for Narrow {
 impl Ord for Narrow {
     ghost use Rattle.std.specs.Prelude.{refl};
     ghost use Rattle.rational.specs.Rational.{cmp_ℚ};
-    ghost use Rattle.rational.proofs.Compare.{cmp_ℚ_total, tiesℚ};
+    ghost use Rattle.rational.proofs.Comparisons.{cmp_total, cmp_ties};
 
     ghost cmp = { cmp_ℚ };
 
-    ghost total = { cmp_ℚ_total };
+    ghost total = { cmp_total };
 
     ghost matches_partial_cmp = { λ a b. refl };
 
-    ghost matches_eq = { tiesℚ };
+    ghost matches_eq = { cmp_ties };
 
     fn cmp(&self, other: &Narrow) -> Ordering {
         self.widen().order(other.widen())

@@ -1,0 +1,4 @@
+pub mod Duties
+pub mod Bools
+pub mod Naturals
+pub mod Lists
