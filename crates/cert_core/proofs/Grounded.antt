@@ -6,13 +6,14 @@ use Rattle.rational.specs.Rational.{ℚ}
 use Rattle.cert_core.specs.declared.tree.DualTree.{DualTree}
 use Rattle.cert_core.specs.declared.tree.DualTree.TheVariants as tree
 use Rattle.cert_core.specs.Soft.{Decisions, SoftProgram, decision_of, AreDecisions, AreUndecided, decide, program_under, IsLawful}
-use Rattle.cert_core.specs.Duties.{AllMet}
+use Rattle.basics.specs.Duties.{AllMet}
 use Rattle.cert_core.specs.Trees.{Above, Leaf, AtLeaf, Misfit, Shows, leaf_under, is_fit, below_split, child_leaves, leaves_of, LeafProves, IsLeafReckoned, AreLeavesReckoned, ProvesTree, leaf_duties, leaves_duties, at_leaf}
 use Rattle.cert_core.proofs.Exactness.{duties-exact, exact-duties}
-use Rattle.cert_core.proofs.Judging.{AllMet-append, AllMet-left, AllMet-right}
+use Rattle.basics.proofs.Duties.{AllMet-append, AllMet-left, AllMet-right}
 use Rattle.cert_core.proofs.Deciding.{decide-AreDecisions}
+use Rattle.basics.proofs.Lists.{each_append}
 use Rattle.cert_core.proofs.Leaves.{leaves_of-split, leaves_of-none, leaves_of-at_least, each_tree}
-use Rattle.cert_core.proofs.TreeParts.{all-append, fits-somehow, AllMet-at_leaf, at_leaf-AllMet}
+use Rattle.cert_core.proofs.TreeParts.{fits-somehow, AllMet-at_leaf, at_leaf-AllMet}
 
 -- the decisions above a leaf that shows something are in range
 abbrev pub IsGrounded : SoftProgram → Leaf → Type 0
@@ -41,7 +42,7 @@ module _ {T R S : Type 0} (term : T → ℕ) (row : R → ℕ) (value : S → �
   grounded_children : (misfit : Option ℕ) (made : Decisions) (t w n : ℕ) → ((v : ℕ) → v < n → misfit ≡ None → AreDecisions p (decide made t v)) → (cs : List (DualTree T R S)) → w + length cs ≡ n → AllByRecursion GroundsLeaves cs
       → AllByRecursion (λ leaf. IsGrounded p leaf) (child_leaves misfit made t w (map (leaves_of term row value p q) cs))
   grounded_children misfit made t w n f [] e a = tt
-  grounded_children misfit made t w n f (c ∷ cs) e a = all-append (λ leaf. IsGrounded p leaf) (leaves_of term row value p q c (record { misfit = misfit; made = decide made t w })) (child_leaves misfit made t (w + 1) (map (leaves_of term row value p q) cs))
+  grounded_children misfit made t w n f (c ∷ cs) e a = each_append (λ leaf. IsGrounded p leaf) (leaves_of term row value p q c (record { misfit = misfit; made = decide made t w })) (child_leaves misfit made t (w + 1) (map (leaves_of term row value p q) cs))
       (a.0 (record { misfit = misfit; made = decide made t w }) (f w (omega arith))) (grounded_children misfit made t (w + 1) n f cs (omega arith) a.1)
 
   below_none : (above : Above) (t n : ℕ) → below_split p above t n ≡ None → (above.misfit ≡ None) × (is_fit p above.made t n ≡ true)

@@ -1,5 +1,4 @@
 pub mod PartialSums
-pub mod Judging
 pub mod Meaning
 pub mod Columns
 pub mod Parts

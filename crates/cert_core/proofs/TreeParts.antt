@@ -13,20 +13,17 @@ use Rattle.cert_core.specs.declared.tree.TreeFault.{TreeFault}
 use Rattle.cert_core.specs.declared.tree.DualTree.{DualTree}
 use Rattle.cert_core.specs.declared.tree.DualTree.TheVariants as tree
 use Rattle.cert_core.specs.Soft.{Decisions, SoftProgram, ways_of, decision_of, decide, IsLawful}
-use Rattle.cert_core.specs.Duties.{Duty, AllMet, IsFirstUnmet}
+use Rattle.basics.specs.Duties.{Duty, AllMet, IsFirstUnmet}
 use Rattle.cert_core.specs.Faults.{fault_of, tree_fault_of, multipliers_of}
 use Rattle.cert_core.specs.Trees.{Above, AtLeaf, Leaf, Misfit, Shows, is_undecided, is_fit, below_split, child_leaves, leaves_of, leaf_duties, is_between, asked_duties, between_duties, at_leaf, top, leaf_count}
 use Rattle.cert_core.specs.LeafWalks.{JudgesLeaves}
-use Rattle.cert_core.proofs.Judging.{ComesDownTo, ComesDownTo-itself, ComesDownTo-part, ComesDownTo-within, AllMet-append, IsFirstUnmet-left}
+use Rattle.basics.proofs.Duties.{ComesDownTo, ComesDownTo-itself, ComesDownTo-part, ComesDownTo-within, AllMet-append, IsFirstUnmet-left}
+use Rattle.basics.proofs.Lists.{each_append}
 use Rattle.cert_core.proofs.Leaves.{leaves_of-split, leaves_of-none, leaves_of-at_least, each_tree}
 use Rattle.cert_core.proofs.Counting.{leaf_count-no_child, leaf_count-children, leaf_count-none, leaf_count-at_least}
 
 pub drop_item : {X : Type 0} (xs : List X) (n : ℕ) (x : X) → n < length xs → x ≡ get_or xs n x → drop n xs ≡ x ∷ drop (n + 1) xs
 drop_item xs n x h e = drop-cons xs n x h ∙ ap (λ y. y ∷ drop (suc n) xs) (sym e) ∙ (let next : suc n ≡ n + 1 = omega arith in ap (λ (k : ℕ). x ∷ drop k xs) next)
-
-pub all-append : {X : Type 0} (P : X → Type 0) (xs ys : List X) → AllByRecursion P xs → AllByRecursion P ys → AllByRecursion P (xs ++ ys)
-all-append P [] ys h k = k
-all-append P (x ∷ xs) ys h k = (h.0, all-append P xs ys h.1 k)
 
 -- ---- a leaf's duties, each named with the leaf's number
 pub AllMet-at_leaf : (n : ℕ) (ds : List (Duty (CertFault ℕ ℕ))) → AllMet ds → AllMet (map (at_leaf n) ds)
@@ -174,7 +171,7 @@ module _ {T R S : Type 0} (term : T → ℕ) (row : R → ℕ) (value : S → �
 
   children-misfit : (s : ℕ) (made : Decisions) (t w : ℕ) (cs : List (DualTree T R S)) → AllByRecursion AllMisfit cs → AllByRecursion (λ (leaf : Leaf). leaf.here ≡ Misfit s) (child_leaves (Some s) made t w (map (leaves_of term row value p q) cs))
   children-misfit s made t w [] a = tt
-  children-misfit s made t w (c ∷ cs) a = all-append (λ (leaf : Leaf). leaf.here ≡ Misfit s) (leaves_of term row value p q c (record { misfit = Some s; made = decide made t w })) (child_leaves (Some s) made t (w + 1) (map (leaves_of term row value p q) cs)) (a.0 s (decide made t w)) (children-misfit s made t (w + 1) cs a.1)
+  children-misfit s made t w (c ∷ cs) a = each_append (λ (leaf : Leaf). leaf.here ≡ Misfit s) (leaves_of term row value p q c (record { misfit = Some s; made = decide made t w })) (child_leaves (Some s) made t (w + 1) (map (leaves_of term row value p q) cs)) (a.0 s (decide made t w)) (children-misfit s made t (w + 1) cs a.1)
 
   all-misfit_split : (t : T) (children : List (DualTree T R S)) → AllByRecursion AllMisfit children → AllMisfit (tree.Split t children)
   all-misfit_split t [] a s made = subst (λ (f : Above → List Leaf). AllByRecursion (λ (leaf : Leaf). leaf.here ≡ Misfit s) (f (record { misfit = Some s; made = made }))) (sym (leaves_of-split term row value p q t [])) (refl, tt)

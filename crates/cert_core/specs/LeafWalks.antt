@@ -3,7 +3,7 @@ use Rattle.std.specs.Prelude.{◌≡◌, ℕ, ◌+◌, min, List, Result}
 use Rattle.std.specs.Result.{MatchResult}
 use Rattle.cert_core.specs.declared.tree.TreeFault.{TreeFault}
 use Rattle.cert_core.specs.Soft.{SoftProgram}
-use Rattle.cert_core.specs.Duties.{AllMet, IsFirstUnmet}
+use Rattle.basics.specs.Duties.{AllMet, IsFirstUnmet}
 use Rattle.cert_core.specs.Trees.{Leaf, between_duties}
 
 -- Ok names the number of leaves up to the end of the part, at most `to`, where all that is asked of its leaves is met; else the answer is the first fault

@@ -1,6 +1,4 @@
 pub mod Programs
-pub mod Duties
-pub mod Sums
 pub mod Checks
 pub mod Faults
 pub mod Soft

@@ -1,10 +1,10 @@
--- Programs over one variable, as the tests have them.
+-- Private: programs over one variable, as the tests have them.
 use Rattle.std.specs.Prelude.{◌≡◌, ℕ, zero, suc, pos, negsuc, Option, Some, None, List, [], ◌∷◌, length, map, refl}
 use Rattle.std.proofs.Common.{ap, sym, arith}
 use Rattle.std.specs.List.{AllByRecursion}
 use Rattle.rational.specs.Rational.{ℚ, whole, ◌≤ℚ◌}
-use Rattle.rational.proofs.Inequalities.{le_reflℚ, eq_leℚ}
-use Rattle.rational.proofs.Order.{whole-nonneg}
+use Rattle.rational.proofs.Inequalities.{le_refl, le_from_eq}
+use Rattle.rational.proofs.Order.{whole_nonneg}
 use Rattle.rational.specs.Rows.{Row}
 use Rattle.cert_core.specs.Programs.{Program, IsEven}
 use Rattle.cert_core.specs.Soft.{SoftProgram, decision_of, IsLawful}
@@ -41,10 +41,10 @@ priced = record {
 }
 
 price-grows : (o p : Option ℕ) → ((w : ℕ) → o ≡ Some w → p ≡ Some w) → price o ≤ℚ price p
-price-grows None None f = le_reflℚ (whole (pos 0))
-price-grows None (Some zero) f = le_reflℚ (whole (pos 0))
-price-grows None (Some (suc w)) f = whole-nonneg 3
-price-grows (Some w) p f = eq_leℚ (price (Some w)) (price p) (ap price (sym (f w refl)))
+price-grows None None f = le_refl (whole (pos 0))
+price-grows None (Some zero) f = le_refl (whole (pos 0))
+price-grows None (Some (suc w)) f = whole_nonneg 3
+price-grows (Some w) p f = le_from_eq (price (Some w)) (price p) (ap price (sym (f w refl)))
 
 pub priced-lawful : IsLawful priced
 priced-lawful = record {

@@ -4,7 +4,7 @@ ghost use Rattle.std.specs.Prelude.{◌≡◌, ℕ, ◌+◌, ◌<◌, ◌≤◌,
 ghost use Rattle.std.specs.List.{sum_by};
 ghost use Rattle.cert_core.specs.declared.program.CertFault.TheVariants.{Range};
 ghost use Rattle.cert_core.specs.Checks.{claim_of};
-ghost use Rattle.cert_core.specs.Duties.{Judges, IsFirstUnmet};
+ghost use Rattle.basics.specs.Duties.{Judges, IsFirstUnmet};
 ghost use Rattle.cert_core.specs.Faults.{fault_of, multipliers_of, tree_fault_of};
 ghost use Rattle.cert_core.specs.LeafWalks.{JudgesLeaves};
 ghost use Rattle.cert_core.specs.Soft.{AlwaysCosts, AreDecisions, AreUndecided, decide, decision_of, ways_of};
