@@ -1,7 +1,7 @@
 -- Programs over two variables whose rows are read off a list.
 use Rattle.std.specs.Prelude.{◌≡◌, List, [], ◌∷◌, map, length, ℤ, refl}
 use Rattle.std.specs.List.{AllByRecursion}
-use Rattle.rational.specs.Rational.{ℚ, whole, zeroℚ}
+use Rattle.rational.specs.Rational.{whole, zeroℚ}
 use Rattle.rational.specs.Rows.{Row}
 use Rattle.cert_core.specs.Programs.{Program, IsEven}
 

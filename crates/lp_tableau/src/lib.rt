@@ -3,7 +3,6 @@
 
 pub mod chain_laws;
 mod dictionary;
-mod numbers;
 mod outcome;
 mod pivot;
 mod results;

@@ -3,14 +3,12 @@
 ghost use Rattle.std.specs.Prelude.{◌≡◌, ◌≢◌, ℕ, ◌<◌, ◌⊎◌, IsTrue, if◌then◌else◌, length, map, slice_set};
 ghost use Rattle.std.specs.Result.{MatchResult};
 ghost use Rattle.rational.specs.Rational.{zeroℚ};
-ghost use Rattle.rational.specs.Lists.{scale_list};
+ghost use Rattle.rational.specs.Lists.{scale_list, at};
 ghost use Rattle.exact_lin.specs.Reckoning.{CanMultiply};
-ghost use Rattle.lp_tableau.specs.Places.{at};
 ghost use Rattle.lp_tableau.specs.RowLists.{HaveWidth, shown_rows};
 ghost use Rattle.lp_tableau.specs.Pivots.{solved, cleared, replaced, CanSolve, CanReplace, CanReplaceOthers};
 
-use crate::numbers::add_product;
-use exact_lin::{Scalar, Wide};
+use exact_lin::{Scalar, Wide, add_product};
 
 // y times each number of the row.
 fn scale_row<S: Scalar>(row: &[S], y: S, out: &mut [S]) -> Result<(), Wide>

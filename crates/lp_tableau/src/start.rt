@@ -1,8 +1,8 @@
 //! The first dictionary of a program.
 
 ghost use Rattle.std.specs.Prelude.{◌≡◌, ℕ, ◌+◌, ◌<◌, ◌^◌, length, map, IfOk, ◌++◌, ◌∷◌, []};
+ghost use Rattle.rational.specs.Rows.{row_at};
 ghost use Rattle.std.specs.List.{range_with_len};
-ghost use Rattle.cert_core.specs.Programs.{row_at};
 ghost use Rattle.lp_tableau.specs.Dictionaries.{initial, slack_row};
 ghost use Rattle.lp_tableau.specs.RowLists.{shown_rows, HaveWidth};
 ghost use Rattle.lp_tableau.specs.Tableaus.{AreEven, IsRoomFor, dictionary_of};

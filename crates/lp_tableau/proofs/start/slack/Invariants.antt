@@ -1,6 +1,6 @@
 use Rattle.std.proofs.Common.{◌≡◌, map, take}
+use Rattle.rational.specs.Rows.{row_at}
 use Rattle.rational.specs.Rational.{neg_ℚ}
-use Rattle.cert_core.specs.Programs.{row_at}
 use Rattle.lp_tableau.proofs.start.slack.Given as goal
 
 abbrev pub invariant-loop-v : goal.invariant-loop-v

@@ -1,5 +1,5 @@
 use Rattle.std.proofs.Common.{◌∙◌, ap, arith}
-use Rattle.cert_core.specs.Programs.{row_at}
+use Rattle.rational.specs.Rows.{row_at}
 use Rattle.lp_tableau.specs.Dictionaries.{slack_row}
 use Rattle.lp_tableau.specs.RowLists.{shown_rows}
 use Rattle.lp_tableau.proofs.Growing.{slacks-next}
