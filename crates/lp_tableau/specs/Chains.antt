@@ -1,4 +1,4 @@
--- The chain of dictionaries that two rules of least numbers make (Bland 1977): which pivot is next, and where the chain ends.
+-- Believed: the chain of dictionaries that two rules of least numbers make (Bland 1977), which pivot is next, and where the chain ends.
 use Rattle.std.specs.Prelude.{◌≡◌, ℕ, zero, suc, ◌<◌, length, ◌⊎◌}
 use Rattle.rational.specs.Lists.{at}
 use Rattle.rational.specs.Rational.{ℚ, zeroℚ, ◌*ℚ◌, neg_ℚ, inverse, ◌<ℚ◌}

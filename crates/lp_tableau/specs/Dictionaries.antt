@@ -1,4 +1,4 @@
--- Dictionaries of a linear program (Chvátal 1983): each basic variable, and the cost, as a linear function of the nonbasic variables.
+-- Believed: dictionaries of a linear program (Chvátal 1983), each basic variable and the cost as a linear function of the nonbasic variables.
 use Rattle.std.specs.Prelude.{◌≡◌, ℕ, ◌+◌, List, [], ◌∷◌, ◌++◌, length, map, slice_index_or}
 use Rattle.rational.specs.Lists.{at}
 use Rattle.std.specs.List.{All, range_with_len}

@@ -1,4 +1,4 @@
--- A list of scalars in which each place stands for a variable.
+-- Private: a list of scalars in which each place stands for a variable.
 use Rattle.std.specs.Prelude.{◌≡◌, ℕ, ◌+◌, ◌<◌, List, length, map}
 use Rattle.rational.specs.Lists.{at}
 use Rattle.rational.specs.Rational.{ℚ, zeroℚ}

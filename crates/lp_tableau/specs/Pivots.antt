@@ -1,4 +1,4 @@
--- A pivot: the equation of a basic variable is solved for a nonbasic one, which takes its place.
+-- Believed: a pivot, in which the equation of a basic variable is solved for a nonbasic one that takes its place.
 use Rattle.std.specs.Prelude.{◌≡◌, ℕ, ◌<◌, List, length, map, slice_set}
 use Rattle.rational.specs.Rational.{ℚ, zeroℚ, neg_ℚ, inverse}
 use Rattle.rational.specs.Lists.{add_list, scale_list, at}

@@ -1,4 +1,4 @@
--- Numbers by their places in a list, and the first of some places in an order.
+-- Believed: the first of some places in an order, and the variable at a place.
 use Rattle.std.specs.Prelude.{ℕ, ◌<◌, ◌≤◌, List, slice_index_or, Option, MatchOption}
 
 -- the variable at a place; 0 past the end

@@ -1,4 +1,4 @@
--- The dictionary that the numbers of the code stand for.
+-- Private: the dictionary that the numbers of the code stand for, and the room that a pivot has.
 use Rattle.std.specs.Prelude.{◌≡◌, ℕ, ◌+◌, ◌<◌, length, map}
 use Rattle.rational.specs.Rational.{ℚ}
 use Rattle.lp_tableau.specs.declared.tableau.Tableau.{Tableau}
