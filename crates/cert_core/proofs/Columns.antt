@@ -4,9 +4,9 @@ use Rattle.rational.specs.Rational.{ℚ}
 use Rattle.cert_core.specs.declared.program.CertFault.{CertFault}
 use Rattle.cert_core.specs.declared.claim.Claim.{Claim}
 use Rattle.cert_core.specs.Programs.{Program}
-use Rattle.cert_core.specs.Duties.{Duty, AllMet, IsFirstUnmet}
+use Rattle.basics.specs.Duties.{Duty, AllMet, IsFirstUnmet}
 use Rattle.cert_core.specs.Checks.{column_duties, columns_duties}
-use Rattle.cert_core.proofs.Judging.{ComesDownTo, ComesDownTo-part, ComesDownTo-within}
+use Rattle.basics.proofs.Duties.{ComesDownTo, ComesDownTo-part, ComesDownTo-within}
 
 columns-begin : (limit : ℕ) (p : Program) (claim : Claim ℚ) (ys : List (ℕ × ℚ)) (all : List (Duty (CertFault ℕ ℕ))) (v n : ℕ) → v < n
     → ComesDownTo all (columns_duties limit p claim ys v (n - v)) → ComesDownTo all (column_duties limit p claim ys v ++ columns_duties limit p claim ys (v + 1) (n - (v + 1)))

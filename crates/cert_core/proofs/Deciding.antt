@@ -3,8 +3,9 @@ use Rattle.std.proofs.Common.{◌≡◌, ℕ, zero, suc, ◌<◌, ◌≢◌, ref
 use Rattle.std.proofs.lemmas.List.{get_or-set_same, get_or-set_other, length-set, set-get_or}
 use Rattle.rational.specs.Rational.{ℚ, ◌≤ℚ◌}
 use Rattle.rational.specs.Lists.{dot}
-use Rattle.rational.specs.Rows.{Row, Meets}
-use Rattle.cert_core.specs.Programs.{row_at, Solves}
+use Rattle.rational.specs.Rows.{Row, Meets, row_at}
+use Rattle.rational.proofs.Rows.{Meets-at, at-Meets}
+use Rattle.cert_core.specs.Programs.{Solves}
 use Rattle.cert_core.specs.Soft.{Among, Decisions, SoftProgram, ways_of, decision_of, AreDecisions, decide, program_under, IsMore, IsLawful}
 
 same_or_not : (s t : ℕ) → (s ≡ t) ⊎ (s ≢ t)
@@ -39,15 +40,6 @@ decide-IsMore made full t w h m e s v f = ⊎_elim
     (same_or_not s t)
 
 -- ---- rows that are all among others are met where those are
-Meets-at : (x : List ℚ) (rows : List Row) (i : ℕ) → i < length rows → Meets x rows → dot (row_at rows i).factors x ≤ℚ (row_at rows i).bound
-Meets-at x [] i h m = absurd (omega arith)
-Meets-at x (r ∷ rows) zero h m = m.0
-Meets-at x (r ∷ rows) (suc i) h m = Meets-at x rows i (omega arith) m.1
-
-at-Meets : (x : List ℚ) (rows : List Row) → ((i : ℕ) → i < length rows → dot (row_at rows i).factors x ≤ℚ (row_at rows i).bound) → Meets x rows
-at-Meets x [] f = tt
-at-Meets x (r ∷ rows) f = (f 0 (omega arith), at-Meets x rows (λ i h. f (suc i) (omega arith)))
-
 Meets-fewer : (x : List ℚ) (rows more : List Row) → ((r : Row) → Among r rows → Among r more) → Meets x more → Meets x rows
 Meets-fewer x rows more f m = at-Meets x rows (λ i h.
     let a = f (row_at rows i) (i, (h, refl)) in

@@ -4,18 +4,19 @@ use Rattle.std.specs.List.{AllByRecursion}
 use Rattle.std.specs.Result.{IsOk, OnOk}
 use Rattle.cert_core.specs.declared.program.CertFault.{CertFault}
 use Rattle.rational.specs.Rational.{ℚ, zeroℚ, ◌-ℚ◌, ◌≤ℚ◌, ◌<ℚ◌}
-use Rattle.rational.specs.Lists.{add_list}
+use Rattle.rational.specs.Lists.{at, add_list}
+use Rattle.rational.proofs.Lists.{at-add_list, at-Nonneg, Nonneg-at, length-add_list_within}
 use Rattle.rational.proofs.Ring.{law, ◌⊕◌, ◌≐◌, num}
 use Rattle.rational.proofs.Field.{ℚ_ring}
 use Rattle.cert_core.specs.declared.claim.Claim.{Claim}
 use Rattle.cert_core.specs.declared.claim.Claim.TheVariants.{Empty, AtLeast}
 use Rattle.cert_core.specs.Programs.{Program, IsEven, combination, Ascends, AreMultipliers}
-use Rattle.cert_core.specs.Sums.{CanSum}
-use Rattle.cert_core.specs.Duties.{AllMet, Judges}
+use Rattle.exact_lin.specs.Reckonings.{AreDefined, product_sums}
+use Rattle.basics.specs.Duties.{AllMet, Judges}
 use Rattle.cert_core.specs.Checks.{Proves, AreReckoned, column_start, column_terms, column_sum, constant_start, constant_terms, constant_sum, range_duties, sign_duties, column_duties, columns_duties, constant_duties, duties}
-use Rattle.cert_core.proofs.Judging.{AllMet-append, AllMet-no_first, AllMet-left, AllMet-right}
+use Rattle.basics.proofs.Duties.{AllMet-append, AllMet-no_first, AllMet-left, AllMet-right}
 use Rattle.cert_core.proofs.Parts.{duties-met}
-use Rattle.cert_core.proofs.Meaning.{at, at-add_list, at-Nonneg, Nonneg-at, length-combination, length-add_list, sum_from-column, sum_from-bounds, sum_from-negated_bounds}
+use Rattle.cert_core.proofs.Meaning.{length-combination, sum_of_products-column, sum_of_products-bounds, sum_of_products-negated_bounds}
 
 -- ---- rows and signs
 range_duties-Ascends : (count least : ℕ) (ys : List (ℕ × ℚ)) → AllMet (range_duties count least ys) → Ascends count least ys
@@ -37,7 +38,7 @@ nonneg-sign_duties (y ∷ ys) h = (h.0, nonneg-sign_duties ys h.1)
 module _ (limit : ℕ) (p : Program) (claim : Claim ℚ) (ys : List (ℕ × ℚ)) where
   -- ---- columns
   abbrev pub GoodColumn : ℕ → Type 0
-  GoodColumn v = CanSum limit (column_start p claim v) (column_terms p ys v) × (zeroℚ ≤ℚ column_sum p claim ys v)
+  GoodColumn v = AreDefined limit (product_sums (column_start p claim v) (column_terms p ys v)) × (zeroℚ ≤ℚ column_sum p claim ys v)
 
   columns_duties-each : (v n : ℕ) → AllMet (columns_duties limit p claim ys v n) → (w : ℕ) → v ≤ w → w < v + n → GoodColumn w
   columns_duties-each v zero h w k l = absurd (omega arith)
@@ -55,16 +56,16 @@ module _ (limit : ℕ) (p : Program) (claim : Claim ℚ) (ys : List (ℕ × ℚ)
 
 -- ---- each column and the constant, by the combination of the rows
 empty-column : (p : Program) (ys : List (ℕ × ℚ)) (v : ℕ) → column_sum p Empty ys v ≡ at (combination p.rows ys).factors v
-empty-column p ys v = sum_from-column p.rows ys v zeroℚ ∙ law ℚ_ring (at (combination p.rows ys).factors v ∷ []) (λ a. num 0 ⊕ a ≐ a) refl
+empty-column p ys v = sum_of_products-column p.rows ys v zeroℚ ∙ law ℚ_ring (at (combination p.rows ys).factors v ∷ []) (λ a. num 0 ⊕ a ≐ a) refl
 
 costed-column : (p : Program) (ys : List (ℕ × ℚ)) (q : ℚ) (v : ℕ) → column_sum p (AtLeast q) ys v ≡ at (add_list p.costs (combination p.rows ys).factors) v
-costed-column p ys q v = sum_from-column p.rows ys v (at p.costs v) ∙ sym (at-add_list p.costs (combination p.rows ys).factors v)
+costed-column p ys q v = sum_of_products-column p.rows ys v (at p.costs v) ∙ sym (at-add_list p.costs (combination p.rows ys).factors v)
 
 empty-constant : (p : Program) (ys : List (ℕ × ℚ)) → constant_sum p Empty ys ≡ (combination p.rows ys).bound
-empty-constant p ys = sum_from-bounds p.rows ys zeroℚ ∙ law ℚ_ring ((combination p.rows ys).bound ∷ []) (λ a. num 0 ⊕ a ≐ a) refl
+empty-constant p ys = sum_of_products-bounds p.rows ys zeroℚ ∙ law ℚ_ring ((combination p.rows ys).bound ∷ []) (λ a. num 0 ⊕ a ≐ a) refl
 
 costed-constant : (p : Program) (ys : List (ℕ × ℚ)) (q : ℚ) → constant_sum p (AtLeast q) ys ≡ p.base -ℚ (combination p.rows ys).bound
-costed-constant p ys q = sum_from-negated_bounds p.rows ys p.base
+costed-constant p ys q = sum_of_products-negated_bounds p.rows ys p.base
 
 -- ---- both ways
 proves_from : (limit : ℕ) (p : Program) (claim : Claim ℚ) (ys : List (ℕ × ℚ)) → IsEven p → AreMultipliers p ys → ((v : ℕ) → v < length p.costs → zeroℚ ≤ℚ column_sum p claim ys v) → AllMet (constant_duties limit p claim ys) → Proves p claim ys
@@ -75,7 +76,7 @@ proves_from limit p Empty ys e m f k = record {
 }
 proves_from limit p (AtLeast q) ys e m f k = record {
   multipliers = m;
-  columns = at-Nonneg (add_list p.costs (combination p.rows ys).factors) (λ v h. subst (λ z. zeroℚ ≤ℚ z) (costed-column p ys q v) (f v (let l : length (add_list p.costs (combination p.rows ys).factors) ≤ length p.costs = length-add_list p.costs (combination p.rows ys).factors (length p.costs) (omega arith) (length-combination (length p.costs) p.rows ys e.even) in omega arith)));
+  columns = at-Nonneg (add_list p.costs (combination p.rows ys).factors) (λ v h. subst (λ z. zeroℚ ≤ℚ z) (costed-column p ys q v) (f v (let l : length (add_list p.costs (combination p.rows ys).factors) ≤ length p.costs = length-add_list_within p.costs (combination p.rows ys).factors (length p.costs) (omega arith) (length-combination (length p.costs) p.rows ys e.even) in omega arith)));
   constant = subst (λ z. q ≤ℚ z) (costed-constant p ys q) k.1.0;
 }
 
@@ -87,7 +88,7 @@ columns_of_proof : (p : Program) (claim : Claim ℚ) (ys : List (ℕ × ℚ)) (v
 columns_of_proof p Empty ys v c = subst (λ z. zeroℚ ≤ℚ z) (sym (empty-column p ys v)) (Nonneg-at (combination p.rows ys).factors v c.columns)
 columns_of_proof p (AtLeast q) ys v c = subst (λ z. zeroℚ ≤ℚ z) (sym (costed-column p ys q v)) (Nonneg-at (add_list p.costs (combination p.rows ys).factors) v c.columns)
 
-constant_of_proof : (limit : ℕ) (p : Program) (claim : Claim ℚ) (ys : List (ℕ × ℚ)) → Proves p claim ys → CanSum limit (constant_start p claim) (constant_terms p claim ys) → AllMet (constant_duties limit p claim ys)
+constant_of_proof : (limit : ℕ) (p : Program) (claim : Claim ℚ) (ys : List (ℕ × ℚ)) → Proves p claim ys → AreDefined limit (product_sums (constant_start p claim) (constant_terms p claim ys)) → AllMet (constant_duties limit p claim ys)
 constant_of_proof limit p Empty ys c r = (r, (subst (λ z. z <ℚ zeroℚ) (sym (empty-constant p ys)) c.constant, tt))
 constant_of_proof limit p (AtLeast q) ys c r = (r, (subst (λ z. q ≤ℚ z) (sym (costed-constant p ys q)) c.constant, tt))
 

@@ -1,20 +1,19 @@
 -- A tree's check asks exactly that each leaf proves its part by defined sums.
-use Rattle.std.proofs.Common.{◌≡◌, ◌↔◌, ℕ, ◌+◌, ◌<◌, refl, sym, subst, Bool, true, false, Option, Some, None, List, [], ◌∷◌, ◌++◌, length, map, arith, if◌then◌else◌, Result, Ok, Err}
-use Rattle.std.specs.Result.{IsOk}
+use Rattle.std.proofs.Common.{◌≡◌, ℕ, ◌+◌, ◌<◌, refl, sym, subst, Bool, true, false, Option, Some, None, List, [], ◌∷◌, length, map, arith, if◌then◌else◌}
 use Rattle.std.specs.List.{AllByRecursion}
+use Rattle.std.proofs.lemmas.List.{length-map}
 use Rattle.rational.specs.Rational.{ℚ}
-use Rattle.cert_core.specs.declared.program.CertFault.{CertFault}
-use Rattle.cert_core.specs.declared.tree.TreeFault.{TreeFault}
 use Rattle.cert_core.specs.declared.tree.DualTree.{DualTree}
 use Rattle.cert_core.specs.declared.tree.DualTree.TheVariants as tree
 use Rattle.cert_core.specs.Soft.{Decisions, SoftProgram, decision_of, AreDecisions, AreUndecided, decide, program_under, IsLawful}
-use Rattle.cert_core.specs.Duties.{Duty, AllMet}
-use Rattle.cert_core.specs.Trees.{Above, Leaf, AtLeaf, Misfit, Shows, leaf_under, is_fit, below_split, child_leaves, leaves_of, LeafProves, IsLeafReckoned, AreLeavesReckoned, ProvesTree, leaf_duties, leaves_duties, at_leaf, JudgesLeaves}
+use Rattle.basics.specs.Duties.{AllMet}
+use Rattle.cert_core.specs.Trees.{Above, Leaf, AtLeaf, Misfit, Shows, leaf_under, is_fit, below_split, child_leaves, leaves_of, LeafProves, IsLeafReckoned, AreLeavesReckoned, ProvesTree, leaf_duties, leaves_duties, at_leaf}
 use Rattle.cert_core.proofs.Exactness.{duties-exact, exact-duties}
-use Rattle.cert_core.proofs.Judging.{AllMet-append, AllMet-left, AllMet-right, AllMet-no_first}
+use Rattle.basics.proofs.Duties.{AllMet-append, AllMet-left, AllMet-right}
 use Rattle.cert_core.proofs.Deciding.{decide-AreDecisions}
+use Rattle.basics.proofs.Lists.{each_append}
 use Rattle.cert_core.proofs.Leaves.{leaves_of-split, leaves_of-none, leaves_of-at_least, each_tree}
-use Rattle.cert_core.proofs.TreeParts.{fits-somehow, length-map_leaves, AllMet-at_leaf}
+use Rattle.cert_core.proofs.TreeParts.{fits-somehow, AllMet-at_leaf, at_leaf-AllMet}
 
 -- the decisions above a leaf that shows something are in range
 abbrev pub IsGrounded : SoftProgram → Leaf → Type 0
@@ -36,10 +35,6 @@ settled t (Some s) b e = cc
 settled t None true e = (refl, refl)
 settled t None false e = cc
 
-all-append : (p : SoftProgram) (ls ms : List Leaf) → AllByRecursion (λ leaf. IsGrounded p leaf) ls → AllByRecursion (λ leaf. IsGrounded p leaf) ms → AllByRecursion (λ leaf. IsGrounded p leaf) (ls ++ ms)
-all-append p [] ms h k = k
-all-append p (l ∷ ls) ms h k = (h.0, all-append p ls ms h.1 k)
-
 module _ {T R S : Type 0} (term : T → ℕ) (row : R → ℕ) (value : S → ℚ) (p : SoftProgram) (q : ℚ) where
   abbrev GroundsLeaves : DualTree T R S → Type 0
   GroundsLeaves t = (above : Above) → IsGroundedAbove p above → AllByRecursion (λ leaf. IsGrounded p leaf) (leaves_of term row value p q t above)
@@ -47,7 +42,7 @@ module _ {T R S : Type 0} (term : T → ℕ) (row : R → ℕ) (value : S → �
   grounded_children : (misfit : Option ℕ) (made : Decisions) (t w n : ℕ) → ((v : ℕ) → v < n → misfit ≡ None → AreDecisions p (decide made t v)) → (cs : List (DualTree T R S)) → w + length cs ≡ n → AllByRecursion GroundsLeaves cs
       → AllByRecursion (λ leaf. IsGrounded p leaf) (child_leaves misfit made t w (map (leaves_of term row value p q) cs))
   grounded_children misfit made t w n f [] e a = tt
-  grounded_children misfit made t w n f (c ∷ cs) e a = all-append p (leaves_of term row value p q c (record { misfit = misfit; made = decide made t w })) (child_leaves misfit made t (w + 1) (map (leaves_of term row value p q) cs))
+  grounded_children misfit made t w n f (c ∷ cs) e a = each_append (λ leaf. IsGrounded p leaf) (leaves_of term row value p q c (record { misfit = misfit; made = decide made t w })) (child_leaves misfit made t (w + 1) (map (leaves_of term row value p q) cs))
       (a.0 (record { misfit = misfit; made = decide made t w }) (f w (omega arith))) (grounded_children misfit made t (w + 1) n f cs (omega arith) a.1)
 
   below_none : (above : Above) (t n : ℕ) → below_split p above t n ≡ None → (above.misfit ≡ None) × (is_fit p above.made t n ≡ true)
@@ -59,7 +54,7 @@ module _ {T R S : Type 0} (term : T → ℕ) (row : R → ℕ) (value : S → �
       (grounded_children (below_split p above (term t) (length (map (leaves_of term row value p q) (c ∷ cs)))) above.made (term t) 0 (length (c ∷ cs))
       (λ v h e. let b = below_none above (term t) (length (map (leaves_of term row value p q) (c ∷ cs))) e in
       let f = fits-somehow term row value p q above.made (term t) (length (map (leaves_of term row value p q) (c ∷ cs))) b.1 in
-      decide-AreDecisions p above.made (term t) v (g b.0) f.0 (omega (arith, h, f.2, length-map_leaves term row value p q (c ∷ cs))))
+      decide-AreDecisions p above.made (term t) v (g b.0) f.0 (omega (arith, h, f.2, length-map (c ∷ cs) (leaves_of term row value p q))))
       (c ∷ cs) (omega arith) a)
 
   pub leaves-grounded : (t : DualTree T R S) → GroundsLeaves t
@@ -75,10 +70,6 @@ leaf-exact limit p made (Shows claim ys) l g h = let e = duties-exact limit (pro
 exact-leaf : (limit : ℕ) (p : SoftProgram) (made : Decisions) (here : AtLeaf) → LeafProves p (record { made = made; here = here }) → IsLeafReckoned limit p (record { made = made; here = here }) → AllMet (leaf_duties limit p (record { made = made; here = here }))
 exact-leaf limit p made (Misfit t) h r = absurd h
 exact-leaf limit p made (Shows claim ys) h r = (r.0, exact-duties limit (program_under p made) claim ys h r.1)
-
-at_leaf-AllMet : (n : ℕ) (ds : List (Duty (CertFault ℕ ℕ))) → AllMet (map (at_leaf n) ds) → AllMet ds
-at_leaf-AllMet n [] h = tt
-at_leaf-AllMet n (d ∷ ds) h = (h.0, at_leaf-AllMet n ds h.1)
 
 pub leaves-exact : (limit n : ℕ) (p : SoftProgram) (leaves : List Leaf) → IsLawful p → AllByRecursion (λ leaf. IsGrounded p leaf) leaves → AllMet (leaves_duties limit p n leaves) → ProvesTree p leaves × AreLeavesReckoned limit p leaves
 leaves-exact limit n p [] l g h = (tt, tt)
@@ -97,9 +88,3 @@ undecided-AreDecisions p made u = record { one_each = u.one_each; in_range = λ 
   where
     none_some : (w : ℕ) (o : Option ℕ) → o ≡ None → o ≡ Some w → ⊥
     none_some w o e f = cc
-
--- the check of all leaves is Ok exactly where they prove their parts by defined sums
-pub JudgesLeaves-exact : {E : Type 0} (limit : ℕ) (p : SoftProgram) (count : ℕ) (leaves : List Leaf) (result : Result ℕ E) (named : E → TreeFault ℕ ℕ) → IsLawful p → AllByRecursion (λ leaf. IsGrounded p leaf) leaves
-    → JudgesLeaves result named limit p 0 count leaves → IsOk result ↔ (ProvesTree p leaves × AreLeavesReckoned limit p leaves)
-JudgesLeaves-exact limit p count leaves (Ok end) named l g j = (λ _. leaves-exact limit (0 + 1) p leaves l g j.0, λ _. refl)
-JudgesLeaves-exact limit p count leaves (Err e) named l g j = (λ k. cc, λ k. absurd (AllMet-no_first (leaves_duties limit p (0 + 1) leaves) (named e) (exact-leaves limit (0 + 1) p leaves k.0 k.1) j))

@@ -1,5 +1,4 @@
 pub mod PartialSums
-pub mod Judging
 pub mod Meaning
 pub mod Columns
 pub mod Parts
@@ -11,4 +10,4 @@ pub mod Counting
 pub mod TreeParts
 pub mod Heights
 pub mod Grounded
-pub mod SingleLeaf
+pub mod NumberedLeaves

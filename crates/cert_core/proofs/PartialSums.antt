@@ -1,13 +1,19 @@
--- A reckoned sum, done in part: what is left of it.
-use Rattle.std.proofs.Common.{◌≡◌, ℕ, List, refl}
-use Rattle.rational.specs.Rational.{ℚ}
-use Rattle.cert_core.specs.Sums.{sum_from, CanSum}
+-- A reckoned sum of products, one more product done.
+use Rattle.std.proofs.Common.{◌≡◌, ℕ, List, ◌∷◌, sym, ap, ◌∙◌, subst}
+use Rattle.rational.specs.Rational.{ℚ, ◌+ℚ◌, ◌*ℚ◌}
+use Rattle.exact_lin.specs.Reckonings.{AreDefined, product_sum, product_sums}
+use Rattle.exact_lin.proofs.Reckonings.{GoesOn, GoesOn-next, GoesOn-stop}
 
--- the sum of `all` from `start` goes on as that of `rest` from `now`
-pub record GoesOn (limit : ℕ) (start : ℚ) (all : List (ℚ × ℚ)) (now : ℚ) (rest : List (ℚ × ℚ)) : Type 0 where
-  pub value : sum_from start all ≡ sum_from now rest
-  pub onward : CanSum limit start all → CanSum limit now rest
-  pub back : CanSum limit now rest → CanSum limit start all
+module _ (limit : ℕ) (start : ℚ) (all : List (ℚ × ℚ)) where
+  -- the next product, of y and the number a that was read for the entry, is added
+  pub GoesOn-read : (now next y a entry : ℚ) (rest : List (ℚ × ℚ)) → a ≡ entry → next ≡ now +ℚ y *ℚ a → AreDefined limit (product_sum now y a) → GoesOn limit start all now ((y, entry) ∷ rest) → GoesOn limit start all next rest
+  GoesOn-read now next y a entry rest is sum can before = subst (λ q. GoesOn limit start all q rest) (sym (sum ∙ ap (λ q. now +ℚ y *ℚ q) is))
+      (GoesOn-next limit start all now y entry rest before (subst (λ q. AreDefined limit (product_sum now y q)) is can))
 
-pub GoesOn-begin : (limit : ℕ) (start : ℚ) (all : List (ℚ × ℚ)) → GoesOn limit start all start all
-GoesOn-begin limit start all = record { value = refl; onward = λ h. h; back = λ h. h }
+  -- or it isn't defined, and then all is not
+  pub GoesOn-wide : (now y a entry : ℚ) (rest : List (ℚ × ℚ)) → a ≡ entry → ¬ AreDefined limit (product_sum now y a) → GoesOn limit start all now ((y, entry) ∷ rest) → ¬ AreDefined limit (product_sums start all)
+  GoesOn-wide now y a entry rest is never before = GoesOn-stop limit start all now y entry rest before (λ h. never (subst (λ q. AreDefined limit (product_sum now y q)) (sym is) h))
+
+  -- what is left, written otherwise
+  pub GoesOn-rest : (now : ℚ) {rest other : List (ℚ × ℚ)} → rest ≡ other → GoesOn limit start all now rest → GoesOn limit start all now other
+  GoesOn-rest now same before = subst (λ (ts : List (ℚ × ℚ)). GoesOn limit start all now ts) same before

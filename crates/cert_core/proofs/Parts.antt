@@ -5,10 +5,10 @@ use Rattle.rational.specs.Rational.{ℚ}
 use Rattle.cert_core.specs.declared.program.CertFault.{CertFault}
 use Rattle.cert_core.specs.declared.claim.Claim.{Claim}
 use Rattle.cert_core.specs.Programs.{Program}
-use Rattle.cert_core.specs.Duties.{AllMet, IsFirstUnmet, Judges}
+use Rattle.basics.specs.Duties.{AllMet, IsFirstUnmet, Judges}
 use Rattle.cert_core.specs.Checks.{range_duties, sign_duties, columns_duties, constant_duties, duties}
 use Rattle.cert_core.specs.Faults.{multipliers_of}
-use Rattle.cert_core.proofs.Judging.{AllMet-append, IsFirstUnmet-left, IsFirstUnmet-right}
+use Rattle.basics.proofs.Duties.{AllMet-append, IsFirstUnmet-left, IsFirstUnmet-right}
 
 module _ (limit : ℕ) (p : Program) (claim : Claim ℚ) (ys : List (ℕ × ℚ)) (f : CertFault ℕ ℕ) where
   pub unmet_range-first : IsFirstUnmet (range_duties (length p.rows) 0 ys) f → IsFirstUnmet (duties limit p claim ys) f

@@ -1,10 +1,11 @@
 -- A tree whose leaves prove their parts bounds the cost of every solution under every complete list of decisions.
-use Rattle.std.proofs.Common.{◌≡◌, ℕ, suc, ◌+◌, ◌<◌, ◌≤◌, refl, ap, subst, Bool, true, false, Option, Some, None, List, [], ◌∷◌, ◌++◌, length, map, arith, ◌⊎◌, inl, inr, ⊎_elim, if◌then◌else◌, ◌&&◌, nat_lt, nat_eq}
+use Rattle.std.proofs.Common.{◌≡◌, ℕ, ◌+◌, ◌<◌, ◌≤◌, refl, subst, Bool, true, false, Option, Some, None, List, [], ◌∷◌, length, map, arith, ◌⊎◌, inl, inr, ⊎_elim, if◌then◌else◌, ◌&&◌, nat_lt, nat_eq}
 use Rattle.std.specs.List.{AllByRecursion}
+use Rattle.std.proofs.lemmas.List.{length-map}
 use Rattle.std.proofs.lemmas.Bool.Decides.{nat_tests}
 use Rattle.rational.specs.Rational.{ℚ, ◌≤ℚ◌}
 use Rattle.rational.specs.Lists.{dot}
-use Rattle.rational.proofs.Inequalities.{le_transℚ, le_reflℚ, add-le}
+use Rattle.rational.proofs.Inequalities.{le_trans, le_refl, add_le}
 use Rattle.cert_core.specs.declared.claim.Claim.{Claim}
 use Rattle.cert_core.specs.declared.claim.Claim.TheVariants.{Empty, AtLeast}
 use Rattle.cert_core.specs.declared.tree.DualTree.{DualTree}
@@ -12,23 +13,16 @@ use Rattle.cert_core.specs.declared.tree.DualTree.TheVariants as tree
 use Rattle.cert_core.specs.Programs.{Solves, cost_at}
 use Rattle.cert_core.specs.Soft.{Decisions, SoftProgram, ways_of, decision_of, AreDecisions, decide, program_under, IsMore, IsComplete, IsLawful, AlwaysCosts}
 use Rattle.cert_core.specs.Checks.{Proves}
-use Rattle.cert_core.specs.Trees.{Above, Leaf, is_undecided, is_fit, child_leaves, leaves_of, ProvesTree, top}
+use Rattle.cert_core.specs.Trees.{Above, Leaf, is_undecided, is_fit, child_leaves, leaves_of, LeafProves, ProvesTree, top}
 use Rattle.cert_core.proofs.Meaning.{ProvesEmpty-no_solution, ProvesCost-costs}
 use Rattle.cert_core.proofs.Deciding.{decide-AreDecisions, decide-IsMore, Solves-fewer}
+use Rattle.basics.proofs.Lists.{each_left, each_right}
 use Rattle.cert_core.proofs.Leaves.{leaves_of-split, leaves_of-none, leaves_of-at_least, each_tree}
-
-proves-left : (p : SoftProgram) (ls ms : List Leaf) → ProvesTree p (ls ++ ms) → ProvesTree p ls
-proves-left p [] ms h = tt
-proves-left p (l ∷ ls) ms h = (h.0, proves-left p ls ms h.1)
-
-proves-right : (p : SoftProgram) (ls ms : List Leaf) → ProvesTree p (ls ++ ms) → ProvesTree p ms
-proves-right p [] ms h = h
-proves-right p (l ∷ ls) ms h = proves-right p ls ms h.1
 
 -- where a split above can't be made, no leaf proves anything
 misfit-child : (p : SoftProgram) (s : ℕ) (made : Decisions) (t w : ℕ) (c : Above → List Leaf) (cs : List (Above → List Leaf))
     → ((made : Decisions) → ¬ ProvesTree p (c (record { misfit = Some s; made = made }))) → ¬ ProvesTree p (child_leaves (Some s) made t w (c ∷ cs))
-misfit-child p s made t w c cs f h = f (decide made t w) (proves-left p (c (record { misfit = Some s; made = decide made t w })) (child_leaves (Some s) made t (w + 1) cs) h)
+misfit-child p s made t w c cs f h = f (decide made t w) (each_left (λ leaf. LeafProves p leaf) (c (record { misfit = Some s; made = decide made t w })) (child_leaves (Some s) made t (w + 1) cs) h)
 
 module _ {T R S : Type 0} (term : T → ℕ) (row : R → ℕ) (value : S → ℚ) (p : SoftProgram) (q : ℚ) where
   abbrev leaves : DualTree T R S → Above → List Leaf
@@ -57,8 +51,8 @@ module _ {T R S : Type 0} (term : T → ℕ) (row : R → ℕ) (value : S → �
       → (cs : List (DualTree T R S)) → AllByRecursion Bounds cs → (v : ℕ) → v ≤ w → w < v + length cs → ProvesTree p (child_leaves None made t v (map (leaves_of term row value p q) cs)) → q ≤ℚ cost_at (program_under p full) x
   bounds_child full d k x s made t w e m [] a v h l proof = absurd (omega arith)
   bounds_child full d k x s made t w e m (c ∷ cs) a v h l proof = ⊎_elim
-      (λ (here : v ≡ w). a.0 (decide made t w) e (subst (λ (y : ℕ). ProvesTree p (leaves c (top (decide made t y)))) here (proves-left p (leaves c (top (decide made t v))) (child_leaves None made t (v + 1) (map (leaves_of term row value p q) cs)) proof)) full d k m x s)
-      (λ (later : v + 1 ≤ w). bounds_child full d k x s made t w e m cs a.1 (v + 1) later (omega arith) (proves-right p (leaves c (top (decide made t v))) (child_leaves None made t (v + 1) (map (leaves_of term row value p q) cs)) proof))
+      (λ (here : v ≡ w). a.0 (decide made t w) e (subst (λ (y : ℕ). ProvesTree p (leaves c (top (decide made t y)))) here (each_left (λ leaf. LeafProves p leaf) (leaves c (top (decide made t v))) (child_leaves None made t (v + 1) (map (leaves_of term row value p q) cs)) proof)) full d k m x s)
+      (λ (later : v + 1 ≤ w). bounds_child full d k x s made t w e m cs a.1 (v + 1) later (omega arith) (each_right (λ leaf. LeafProves p leaf) (leaves c (top (decide made t v))) (child_leaves None made t (v + 1) (map (leaves_of term row value p q) cs)) proof))
       (here_or_later v w h)
     where
       here_or_later : (v w : ℕ) → v ≤ w → (v ≡ w) ⊎ (v + 1 ≤ w)
@@ -71,10 +65,6 @@ module _ {T R S : Type 0} (term : T → ℕ) (row : R → ℕ) (value : S → �
       go true e = grind (arith, nat_tests)
       go false e = grind (arith, nat_tests)
 
-  length-leaves : (cs : List (DualTree T R S)) → length (map (leaves_of term row value p q) cs) ≡ length cs
-  length-leaves [] = refl
-  length-leaves (c ∷ cs) = ap suc (length-leaves cs)
-
   bounds_children : (made : Decisions) → AreDecisions p made → (t : ℕ) (c : DualTree T R S) (cs : List (DualTree T R S)) → AllByRecursion Bounds (c ∷ cs) → (b : Bool) → is_fit p made t (length (map (leaves_of term row value p q) (c ∷ cs))) ≡ b
       → ProvesTree p (child_leaves (if b then None else Some t) made t 0 (map (leaves_of term row value p q) (c ∷ cs)))
       → (full : Decisions) → AreDecisions p full → IsComplete p full → IsMore made full → (x : List ℚ) → Solves (program_under p full) x → q ≤ℚ cost_at (program_under p full) x
@@ -84,7 +74,7 @@ module _ {T R S : Type 0} (term : T → ℕ) (row : R → ℕ) (value : S → �
       let taken = k t fit.0 in
       let below : taken.0 < ways_of p t = f.in_range t taken.0 taken.1 in
       bounds_child full f k x s made t taken.0 (decide-AreDecisions p made t taken.0 d fit.0 below) (decide-IsMore made full t taken.0 (omega (arith, d.one_each, fit.0)) m taken.1)
-      (c ∷ cs) a 0 (omega arith) (omega (arith, length-leaves (c ∷ cs), fit.1, below)) proof
+      (c ∷ cs) a 0 (omega arith) (omega (arith, length-map (c ∷ cs) (leaves_of term row value p q), fit.1, below)) proof
 
   bounds_split : IsLawful p → (t : T) (children : List (DualTree T R S)) → AllByRecursion Bounds children → Bounds (tree.Split t children)
   bounds_split l t [] a made d proof full f k m x s = absurd (subst (λ (g : Above → List Leaf). ProvesTree p (g (top made))) (leaves_of-split term row value p q t []) proof).0
@@ -94,9 +84,9 @@ module _ {T R S : Type 0} (term : T → ℕ) (row : R → ℕ) (value : S → �
   bounds_leaf : IsLawful p → (made : Decisions) → AreDecisions p made → (claim : Claim ℚ) (ys : List (ℕ × ℚ)) → (claim ≡ Empty) ⊎ (claim ≡ AtLeast q) → Proves (program_under p made) claim ys
       → (full : Decisions) → AreDecisions p full → IsMore made full → (x : List ℚ) → Solves (program_under p full) x → q ≤ℚ cost_at (program_under p full) x
   bounds_leaf l made d Empty ys c proof full f m x s = absurd (ProvesEmpty-no_solution (program_under p made) ys proof x (Solves-fewer p made full x l d f m s))
-  bounds_leaf l made d (AtLeast r) ys c proof full f m x s = le_transℚ _ _ _
+  bounds_leaf l made d (AtLeast r) ys c proof full f m x s = le_trans _ _ _
       (subst (λ z. z ≤ℚ cost_at (program_under p made) x) (claimed c) (ProvesCost-costs (program_under p made) ys r proof x (Solves-fewer p made full x l d f m s)))
-      (add-le _ _ _ _ (l.base_grows made full d f m) (le_reflℚ (dot p.costs x)))
+      (add_le _ _ _ _ (l.base_grows made full d f m) (le_refl (dot p.costs x)))
     where
       claimed : (AtLeast r ≡ Empty) ⊎ (AtLeast r ≡ AtLeast q) → r ≡ q
       claimed (inl e) = cc

@@ -1,4 +1,4 @@
--- What the check of a certificate asks, in order, and the faults that it names.
+-- Believed: what the check of a certificate asks, in order, and the faults that it names.
 use Rattle.std.specs.Prelude.{ℕ, suc, zero, ◌+◌, ◌<◌, ◌≤◌, List, [], ◌∷◌, ◌++◌, length, map}
 use Rattle.rational.specs.Rational.{ℚ, zeroℚ, neg_ℚ, ◌≤ℚ◌, ◌<ℚ◌}
 use Rattle.cert_core.specs.declared.program.CertFault.{CertFault}
@@ -6,8 +6,8 @@ use Rattle.cert_core.specs.declared.program.CertFault.TheVariants.{Negative, Col
 use Rattle.cert_core.specs.declared.claim.Claim.{Claim}
 use Rattle.cert_core.specs.declared.claim.Claim.TheVariants.{Empty, AtLeast}
 use Rattle.cert_core.specs.Programs.{Program, entry_of, bound_of, cost_of, ProvesEmpty, ProvesCost}
-use Rattle.cert_core.specs.Sums.{sum_from, CanSum}
-use Rattle.cert_core.specs.Duties.{Duty}
+use Rattle.exact_lin.specs.Reckonings.{sum_of_products, AreDefined, product_sums}
+use Rattle.basics.specs.Duties.{Duty}
 
 -- the multipliers prove the claim of the program: that it has no solution, or that each costs at least so much
 abbrev pub Proves : Program → Claim ℚ → List (ℕ × ℚ) → Type 0
@@ -42,10 +42,10 @@ constant_terms p claim ys = map (λ y. (y.1, signed_bound p claim y.0)) ys
 
 -- the sum of column v, and of the constant
 abbrev pub column_sum : Program → Claim ℚ → List (ℕ × ℚ) → ℕ → ℚ
-column_sum p claim ys v = sum_from (column_start p claim v) (column_terms p ys v)
+column_sum p claim ys v = sum_of_products (column_start p claim v) (column_terms p ys v)
 
 abbrev pub constant_sum : Program → Claim ℚ → List (ℕ × ℚ) → ℚ
-constant_sum p claim ys = sum_from (constant_start p claim) (constant_terms p claim ys)
+constant_sum p claim ys = sum_of_products (constant_start p claim) (constant_terms p claim ys)
 
 -- each row is in range and above the one before; the fault names the row
 abbrev pub range_duties : ℕ → ℕ → List (ℕ × ℚ) → List (Duty (CertFault ℕ ℕ))
@@ -58,7 +58,7 @@ sign_duties ys = map (λ y. record { fault = Negative y.0; Met = zeroℚ ≤ℚ 
 -- the column's sum is defined and at least 0
 abbrev pub column_duties : ℕ → Program → Claim ℚ → List (ℕ × ℚ) → ℕ → List (Duty (CertFault ℕ ℕ))
 column_duties limit p claim ys v =
-    record { fault = Wide; Met = CanSum limit (column_start p claim v) (column_terms p ys v) }
+    record { fault = Wide; Met = AreDefined limit (product_sums (column_start p claim v) (column_terms p ys v)) }
     ∷ record { fault = Column v; Met = zeroℚ ≤ℚ column_sum p claim ys v } ∷ []
 
 -- the n columns from variable v on, in ascending order
@@ -73,7 +73,7 @@ constant_duty p (AtLeast q) ys = record { fault = Bound; Met = q ≤ℚ constant
 
 abbrev pub constant_duties : ℕ → Program → Claim ℚ → List (ℕ × ℚ) → List (Duty (CertFault ℕ ℕ))
 constant_duties limit p claim ys =
-    record { fault = Wide; Met = CanSum limit (constant_start p claim) (constant_terms p claim ys) }
+    record { fault = Wide; Met = AreDefined limit (product_sums (constant_start p claim) (constant_terms p claim ys)) }
     ∷ constant_duty p claim ys ∷ []
 
 -- all that a check asks: rows, signs, columns in ascending order, then the constant
@@ -86,5 +86,5 @@ duties limit p claim ys =
 
 -- each sum that the check reckons is defined within the limit
 pub record AreReckoned (limit : ℕ) (p : Program) (claim : Claim ℚ) (ys : List (ℕ × ℚ)) : Type 0 where
-  pub columns : (v : ℕ) → v < length p.costs → CanSum limit (column_start p claim v) (column_terms p ys v)
-  pub constant : CanSum limit (constant_start p claim) (constant_terms p claim ys)
+  pub columns : (v : ℕ) → v < length p.costs → AreDefined limit (product_sums (column_start p claim v) (column_terms p ys v))
+  pub constant : AreDefined limit (product_sums (constant_start p claim) (constant_terms p claim ys))

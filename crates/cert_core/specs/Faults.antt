@@ -1,4 +1,4 @@
--- Rows and variables of faults by their numbers.
+-- Believed: rows and variables of faults and of multipliers, as numbers.
 use Rattle.std.specs.Prelude.{ℕ, List, map}
 use Rattle.rational.specs.Rational.{ℚ}
 use Rattle.cert_core.specs.declared.program.CertFault.{CertFault}

@@ -1,8 +1,7 @@
 pub mod Programs
-pub mod Duties
-pub mod Sums
 pub mod Checks
 pub mod Faults
 pub mod Soft
 pub mod Trees
+pub mod LeafWalks
 pub mod Listed

@@ -1,10 +1,10 @@
--- Programs over one variable, as the tests have them.
-use Rattle.std.specs.Prelude.{◌≡◌, ℕ, zero, suc, pos, negsuc, Option, Some, None, List, [], ◌∷◌, length, map, refl}
+-- Private: programs over one variable, as the tests have them.
+use Rattle.std.specs.Prelude.{◌≡◌, ℕ, zero, suc, pos, negsuc, Option, Some, None, Bool, IsTrue, List, [], ◌∷◌, length, map, refl}
 use Rattle.std.proofs.Common.{ap, sym, arith}
 use Rattle.std.specs.List.{AllByRecursion}
 use Rattle.rational.specs.Rational.{ℚ, whole, ◌≤ℚ◌}
-use Rattle.rational.proofs.Inequalities.{le_reflℚ, eq_leℚ}
-use Rattle.rational.proofs.Order.{whole-nonneg}
+use Rattle.rational.proofs.Inequalities.{le_refl, le_from_eq}
+use Rattle.rational.proofs.Order.{whole_nonneg}
 use Rattle.rational.specs.Rows.{Row}
 use Rattle.cert_core.specs.Programs.{Program, IsEven}
 use Rattle.cert_core.specs.Soft.{SoftProgram, decision_of, IsLawful}
@@ -23,31 +23,31 @@ each-even value (r ∷ rows) = (refl, each-even value rows)
 pub listed-even : {S : Type 0} (value : S → ℚ) (rows : List (S × S)) (cost base : S) → IsEven (listed_program value rows cost base)
 listed-even value rows cost base = record { even = each-even value rows }
 
--- ---- a program with one term of two ways: 2 ≤ x ≤ 5 at the cost x, and 3 more where the term is paid for
+-- ---- a program with one term of two ways: 2 ≤ x ≤ 5 at the cost x, and 3 more where the term is paid for; its base is defined where it has one
 abbrev pub price : Option ℕ → ℚ
 price None = whole (pos 0)
 price (Some zero) = whole (pos 0)
 price (Some (suc w)) = whole (pos 3)
 
-abbrev pub priced : SoftProgram
-priced = record {
+abbrev pub priced : Bool → SoftProgram
+priced has_base = record {
   ways = 2 ∷ [];
   costs = whole (pos 1) ∷ [];
   rows = λ made. record { factors = whole (negsuc 0) ∷ []; bound = whole (negsuc 1) } ∷ record { factors = whole (pos 1) ∷ []; bound = whole (pos 5) } ∷ [];
   base = λ made. price (decision_of made 0);
-  CanReckonBase = λ made. Unit {0};
+  CanReckonBase = λ made. IsTrue has_base;
   IsFree = λ x t. ⊥;
   CanTellFree = λ x t. Unit {0};
 }
 
 price-grows : (o p : Option ℕ) → ((w : ℕ) → o ≡ Some w → p ≡ Some w) → price o ≤ℚ price p
-price-grows None None f = le_reflℚ (whole (pos 0))
-price-grows None (Some zero) f = le_reflℚ (whole (pos 0))
-price-grows None (Some (suc w)) f = whole-nonneg 3
-price-grows (Some w) p f = eq_leℚ (price (Some w)) (price p) (ap price (sym (f w refl)))
+price-grows None None f = le_refl (whole (pos 0))
+price-grows None (Some zero) f = le_refl (whole (pos 0))
+price-grows None (Some (suc w)) f = whole_nonneg 3
+price-grows (Some w) p f = le_from_eq (price (Some w)) (price p) (ap price (sym (f w refl)))
 
-pub priced-lawful : IsLawful priced
-priced-lawful = record {
+pub priced-lawful : (has_base : Bool) → IsLawful (priced has_base)
+priced-lawful has_base = record {
   two_ways = (omega arith, tt);
   even = λ made d. record { even = (refl, (refl, tt)) };
   rows_grow = λ made more d e m r a. a;

@@ -1,9 +1,9 @@
--- Linear programs: among the points x ≥ 0 with A x ≤ b, the least cost `base + c x`.
+-- Believed: linear programs, among the points x ≥ 0 with A x ≤ b the least cost `base + c x`, and what proves that they have no solution or that each costs so much.
 use Rattle.std.specs.Prelude.{◌≡◌, ℕ, ◌+◌, ◌<◌, ◌≤◌, List, [], ◌∷◌, length, map, slice_index_or}
 use Rattle.std.specs.List.{AllByRecursion}
 use Rattle.rational.specs.Rational.{ℚ, zeroℚ, ◌+ℚ◌, ◌-ℚ◌, ◌≤ℚ◌, ◌<ℚ◌}
 use Rattle.rational.specs.Lists.{dot, add_list, Nonneg}
-use Rattle.rational.specs.Rows.{Row, sum_rows, Meets}
+use Rattle.rational.specs.Rows.{Row, row_at, sum_rows, Meets}
 
 -- the rows `A x ≤ b`, the cost's factors c, one for each variable, and its constant
 pub record Program : Type 0 where
@@ -14,12 +14,6 @@ pub record Program : Type 0 where
 -- each row has one factor for each variable
 pub record IsEven (p : Program) : Type 0 where
   pub even : AllByRecursion (λ (r : Row). length r.factors ≡ length p.costs) p.rows
-
-abbrev pub no_row : Row
-no_row = record { factors = []; bound = zeroℚ }
-
-abbrev pub row_at : List Row → ℕ → Row
-row_at rows r = slice_index_or rows r no_row
 
 -- the entry of row r in the column of variable v
 abbrev pub entry_of : Program → ℕ → ℕ → ℚ

@@ -1,9 +1,9 @@
--- Programs with terms to decide: preferences and costs of times, each to be met or paid for.
+-- Believed: programs with terms to decide, preferences and costs of times, each to be met or paid for.
 use Rattle.std.specs.Prelude.{◌≡◌, ℕ, ◌-◌, ◌<◌, ◌≤◌, Option, Some, None, List, length, slice_index_or, slice_set}
 use Rattle.std.specs.List.{AllByRecursion}
 use Rattle.rational.specs.Rational.{ℚ, zeroℚ, ◌≤ℚ◌}
-use Rattle.rational.specs.Rows.{Row}
-use Rattle.cert_core.specs.Programs.{Program, IsEven, row_at, Solves, cost_at}
+use Rattle.rational.specs.Rows.{Row, row_at}
+use Rattle.cert_core.specs.Programs.{Program, IsEven, Solves, cost_at}
 
 -- the row is one of the rows
 abbrev pub Among : Row → List Row → Type 0

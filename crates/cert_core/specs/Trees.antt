@@ -1,6 +1,5 @@
--- Trees of decisions, read as the list of their leaves; what they prove, and what their check asks.
-use Rattle.std.specs.Prelude.{◌≡◌, ◌↔◌, ℕ, ◌+◌, ◌-◌, ◌<◌, ◌≤◌, slice_index_or, Bool, true, false, ◌&&◌, nat_eq, nat_lt, Option, Some, None, List, [], ◌∷◌, ◌++◌, length, map, sum, if◌then◌else◌, Result}
-use Rattle.std.specs.Result.{MatchResult}
+-- Believed: trees of decisions, read as the list of their leaves, what they prove, and what their check asks.
+use Rattle.std.specs.Prelude.{◌↔◌, ℕ, ◌+◌, ◌-◌, ◌<◌, ◌≤◌, slice_index_or, Bool, true, false, ◌&&◌, nat_eq, nat_lt, nat_le, Option, Some, None, List, [], ◌∷◌, ◌++◌, length, map, sum, if◌then◌else◌}
 use Rattle.std.specs.List.{AllByRecursion}
 use Rattle.rational.specs.Rational.{ℚ}
 use Rattle.cert_core.specs.declared.program.CertFault.{CertFault}
@@ -10,8 +9,8 @@ use Rattle.cert_core.specs.declared.claim.Claim.TheVariants.{Empty, AtLeast}
 use Rattle.cert_core.specs.declared.tree.TreeFault.{TreeFault}
 use Rattle.cert_core.specs.declared.tree.DualTree.{DualTree, fold-DualTree}
 use Rattle.cert_core.specs.declared.tree.DualTree.TheOpen.{DualTree-F}
-use Rattle.cert_core.specs.Soft.{SoftProgram, Decisions, ways_of, decision_of, decide, program_under}
-use Rattle.cert_core.specs.Duties.{Duty, AllMet, IsFirstUnmet}
+use Rattle.cert_core.specs.Soft.{SoftProgram, Decisions, ways_of, decision_of, decide, program_under, AreUndecided}
+use Rattle.basics.specs.Duties.{Duty, AllMet, IsFirstUnmet}
 use Rattle.cert_core.specs.Checks.{Proves, AreReckoned, duties}
 use Rattle.cert_core.specs.Faults.{multipliers_of}
 
@@ -89,6 +88,20 @@ abbrev pub leaves_duties : ℕ → SoftProgram → ℕ → List Leaf → List (D
 leaves_duties limit p n [] = []
 leaves_duties limit p n (leaf ∷ leaves) = map (at_leaf n) (leaf_duties limit p leaf) ++ leaves_duties limit p (n + 1) leaves
 
+-- the number is one of those from `from` to `to`
+abbrev pub is_between : ℕ → ℕ → ℕ → Bool
+is_between from to n = nat_le from n && nat_le n to
+
+-- the duties, where they are asked
+abbrev pub asked_duties : {F : Type 0} → Bool → List (Duty F) → List (Duty F)
+asked_duties true ds = ds
+asked_duties false ds = []
+
+-- what the check of the leaves with the numbers from `from` to `to` asks, where the leaves count from n
+abbrev pub between_duties : ℕ → SoftProgram → ℕ → ℕ → ℕ → List Leaf → List (Duty (TreeFault ℕ ℕ))
+between_duties limit p from to n [] = []
+between_duties limit p from to n (leaf ∷ leaves) = asked_duties (is_between from to n) (map (at_leaf n) (leaf_duties limit p leaf)) ++ between_duties limit p from to (n + 1) leaves
+
 -- nothing stands above a tree but these decisions
 abbrev pub top : Decisions → Above
 top made = record { misfit = None; made = made }
@@ -107,10 +120,6 @@ layer_count (DualTree-F.AtLeast pairs) = 1
 unfoldable pub leaf_count : {T R S : Type 0} → DualTree T R S → ℕ
 leaf_count {T} {R} {S} tree = fold-DualTree T R S ℕ layer_count tree
 
--- Ok names the leaves up to the end where all that is asked of these leaves, counted after `done`, is met; else the answer is the first fault.
-abbrev pub JudgesLeaves : {E : Type 0} → Result ℕ E → (E → TreeFault ℕ ℕ) → ℕ → SoftProgram → ℕ → ℕ → List Leaf → Type 0
-JudgesLeaves result named limit p done count leaves = MatchResult result (λ end. AllMet (leaves_duties limit p (done + 1) leaves) × (end ≡ done + count)) (λ e. IsFirstUnmet (leaves_duties limit p (done + 1) leaves) (named e))
-
 -- each sum that the check of these leaves reckons is defined
 abbrev pub AreLeavesReckoned : ℕ → SoftProgram → List Leaf → Type 0
 AreLeavesReckoned limit p leaves = AllByRecursion (λ leaf. IsLeafReckoned limit p leaf) leaves
@@ -127,3 +136,13 @@ numbered_duties limit p leaves n = leaf_duties limit p (leaf_at leaves n)
 abbrev pub FailsAtFirstLeaf : ℕ → SoftProgram → Type 0
 FailsAtFirstLeaf limit p = (leaves : List Leaf) (f : TreeFault ℕ ℕ) → IsFirstUnmet (leaves_duties limit p 1 leaves) f
     ↔ ((1 ≤ f.leaf) × (f.leaf ≤ length leaves) × IsFirstUnmet (numbered_duties limit p leaves f.leaf) f.fault × ((n : ℕ) → 1 ≤ n → n < f.leaf → AllMet (numbered_duties limit p leaves n)))
+
+-- each leaf passes its own check
+abbrev pub EachLeafPasses : ℕ → SoftProgram → List Leaf → Type 0
+EachLeafPasses limit p leaves = (n : ℕ) → 1 ≤ n → n ≤ length leaves → AllMet (numbered_duties limit p leaves n)
+
+-- Each leaf passes its own check exactly where the tree proves its cost and each sum that its check reckons is defined.
+abbrev pub PassesWithItsLeaves : {T R S : Type 0} → (T → ℕ) → (R → ℕ) → (S → ℚ) → ℕ → SoftProgram → DualTree T R S → Type 0
+PassesWithItsLeaves term row value limit p tree = (q : ℚ) (made : Decisions) → AreUndecided p made
+    → EachLeafPasses limit p (leaves_of term row value p q tree (top made))
+    ↔ (ProvesTree p (leaves_of term row value p q tree (top made)) × AreLeavesReckoned limit p (leaves_of term row value p q tree (top made)))

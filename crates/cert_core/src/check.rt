@@ -1,10 +1,10 @@
+//! The check of a certificate: its rows, its signs, its columns, its constant.
+
 ghost use Rattle.std.specs.Prelude.{◌≡◌, ◌<◌, ◌≤◌, ◌↔◌, length, IfErr, OnOk};
 ghost use Rattle.std.specs.Result.{IsOk};
-ghost use Rattle.std.specs.Bool.{MatchBool};
 ghost use Rattle.std.specs.List.{AllByRecursion};
-ghost use Rattle.rational.specs.Rational.{zeroℚ, ◌≤ℚ◌, ◌<ℚ◌};
 ghost use Rattle.cert_core.specs.Programs.{ProvesEmpty, ProvesCost, HasNoSolution, CostsAtLeast};
-ghost use Rattle.cert_core.specs.Duties.{Judges, IsFirstUnmet};
+ghost use Rattle.basics.specs.Duties.{Judges, IsFirstUnmet};
 ghost use Rattle.cert_core.specs.Checks.{AreReckoned, claim_of, column_start, column_duties, columns_duties, constant_duties, duties, range_duties, sign_duties};
 ghost use Rattle.cert_core.specs.Faults.{fault_of, multipliers_of};
 
@@ -12,23 +12,7 @@ use crate::claim::Claim;
 use crate::pairs::{DualRow, FarkasRow};
 use crate::program::{CertFault, Rows};
 use crate::sums::{column_sum, constant_sum};
-use exact_lin::{Id, Scalar};
-use std::cmp::Ordering;
-
-fn is_below<S: Scalar>(x: S, y: S) -> bool
-    ensures { MatchBool result (S.value x <ℚ S.value y) (S.value y ≤ℚ S.value x) }
-{
-    match x.cmp(y) {
-        Ordering::Less => true,
-        Ordering::Equal | Ordering::Greater => false,
-    }
-}
-
-fn is_negative<S: Scalar>(x: S) -> bool
-    ensures { MatchBool result (S.value x <ℚ zeroℚ) (zeroℚ ≤ℚ S.value x) }
-{
-    is_below(x, S::of_int(0))
-}
+use exact_lin::{Id, Scalar, is_below, is_negative};
 
 // Each row is in range and above the one before.
 fn check_ranges<R: Id, V: Id, S: Scalar, P: Rows<R, V, S>>(

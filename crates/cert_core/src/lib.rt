@@ -4,6 +4,7 @@
 mod check;
 mod claim;
 mod decided;
+mod laws;
 mod pairs;
 mod program;
 mod soft;
@@ -13,11 +14,12 @@ mod tree_check;
 
 pub use check::{check_dual, check_farkas};
 pub use decided::{Decided, under};
+pub use laws::{tree_fails_at_first_leaf, tree_passes_with_its_leaves};
 pub use pairs::{DualRow, FarkasRow};
 pub use program::{CertFault, Rows};
 pub use soft::{SoftRows, Way};
 pub use tree::{DualTree, TreeFault};
-pub use tree_check::{check_leaf, check_tree, tree_fails_at_first_leaf};
+pub use tree_check::{check_leaf, check_leaves, check_tree};
 
 #[cfg(test)]
 mod tests;

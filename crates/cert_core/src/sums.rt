@@ -1,27 +1,15 @@
+//! The sums that a check reckons: of a column, and of the constant.
+
 ghost use Rattle.std.specs.Prelude.{◌≡◌, ◌<◌, length, OnOk};
 ghost use Rattle.std.specs.List.{AllByRecursion};
-ghost use Rattle.std.specs.Result.{MatchResult};
-ghost use Rattle.rational.specs.Rational.{◌+ℚ◌, ◌*ℚ◌};
-ghost use Rattle.cert_core.specs.Sums.{CanAddProduct, sum_from, CanSum};
+ghost use Rattle.exact_lin.specs.Reckoning.{Reckons};
+ghost use Rattle.exact_lin.specs.Reckonings.{AreDefined, product_sums, sum_of_products};
 ghost use Rattle.cert_core.specs.Checks.{claim_of, column_terms, constant_start, constant_terms, signed_bound};
 ghost use Rattle.cert_core.specs.Faults.{multipliers_of};
 
 use crate::claim::Claim;
 use crate::program::Rows;
-use exact_lin::{Id, Scalar, Wide};
-
-// sum + y a
-pub(crate) fn add_product<S: Scalar>(sum: S, y: S, a: S) -> Result<S, Wide>
-    ensures { MatchResult result
-        (λ total. CanAddProduct S.limit (S.value sum) (S.value y) (S.value a)
-        × S.value total ≡ S.value sum +ℚ S.value y *ℚ S.value a)
-        (λ _. ¬ CanAddProduct S.limit (S.value sum) (S.value y) (S.value a)) }
-{
-    match y.mul(a) {
-        Ok(product) => sum.add(product),
-        Err(wide) => Err(wide),
-    }
-}
+use exact_lin::{Id, Scalar, Wide, add_product};
 
 // start + the multipliers times the entries of their rows in the column of v
 pub(crate) fn column_sum<R: Id, V: Id, S: Scalar, P: Rows<R, V, S>>(
@@ -33,9 +21,8 @@ pub(crate) fn column_sum<R: Id, V: Id, S: Scalar, P: Rows<R, V, S>>(
     requires rows { AllByRecursion (λ y. R.number_of y.0 < length (P.program program.now).rows) pairs.now }
     requires variable { V.number_of v < length (P.program program.now).costs }
     ensures { let terms = column_terms (P.program program.now) (multipliers_of R.number_of S.value pairs.now) (V.number_of v) in
-        MatchResult result
-        (λ sum. CanSum S.limit (S.value start) terms × S.value sum ≡ sum_from (S.value start) terms)
-        (λ _. ¬ CanSum S.limit (S.value start) terms) }
+        Reckons S.value result (AreDefined S.limit (product_sums (S.value start) terms))
+        (sum_of_products (S.value start) terms) }
 {
     let mut sum = start;
     for pair in pairs {
@@ -81,9 +68,7 @@ pub(crate) fn constant_sum<R: Id, V: Id, S: Scalar, P: Rows<R, V, S>>(
     requires { AllByRecursion (λ y. R.number_of y.0 < length (P.program program.now).rows) pairs.now }
     ensures { let start = constant_start (P.program program.now) (claim_of S.value claim) in
         let terms = constant_terms (P.program program.now) (claim_of S.value claim) (multipliers_of R.number_of S.value pairs.now) in
-        MatchResult result
-        (λ sum. CanSum S.limit start terms × S.value sum ≡ sum_from start terms)
-        (λ _. ¬ CanSum S.limit start terms) }
+        Reckons S.value result (AreDefined S.limit (product_sums start terms)) (sum_of_products start terms) }
 {
     let mut sum = constant_start_of(program, claim);
     for pair in pairs {

@@ -2,7 +2,7 @@ ghost use Rattle.std.specs.Prelude.{◌≡◌, ◌<◌, ◌^◌, length};
 
 use crate::{
     CertFault, DualRow, DualTree, FarkasRow, Rows, SoftRows, TreeFault, Way, check_dual,
-    check_farkas, check_tree,
+    check_farkas, check_leaf, check_leaves, check_tree,
 };
 use exact_lin::{Fraction, Id, Narrow, RowId, Scalar, TermId, VarId, Wide};
 use sqlite_items::Items;
@@ -51,13 +51,17 @@ impl<R: Id, V: Id, S: Scalar> Rows<R, V, S> for Listed<S> {
     ghost even = { λ p. listed-even S.value p.rows.items p.cost p.base };
 }
 
-// 2 <= x <= 5 at the cost x, with one term of two ways that costs 3 more where it is paid for.
-struct Priced;
+// 2 <= x <= 5 at the cost x, with one term of two ways that costs 3 more where it is paid for; where `has_base` is
+// false, no base is defined.
+#[derive(Drop)]
+struct Priced {
+    has_base: bool,
+}
 
 impl<T: Id, R: Id, V: Id, S: Scalar> SoftRows<T, R, V, S> for Priced {
     ghost use Rattle.cert_core.specs.Listed.{priced, priced-lawful};
 
-    ghost soft = { λ p. priced };
+    ghost soft = { λ p. priced p.has_base };
 
     fn term_count(&self) -> u32 {
         1
@@ -96,6 +100,9 @@ impl<T: Id, R: Id, V: Id, S: Scalar> SoftRows<T, R, V, S> for Priced {
     }
 
     fn base(&self, made: &[Option<Way>]) -> Result<S, Wide> {
+        if !self.has_base {
+            return Err(Wide);
+        }
         match made[0] {
             Some(way) => if way == Way(0) {
                 Ok(S::of_int(0))
@@ -110,7 +117,7 @@ impl<T: Id, R: Id, V: Id, S: Scalar> SoftRows<T, R, V, S> for Priced {
         Ok(false)
     }
 
-    ghost lawful = { λ p. priced-lawful };
+    ghost lawful = { λ p. priced-lawful p.has_base };
 }
 
 // The program of these rows, as whole numbers.
@@ -190,44 +197,184 @@ fn make_split<S: Scalar>(
     Ok(DualTree::Split(TermId::of(0), children))
 }
 
-// What the check of such a split answers.
-fn check_priced(
-    rt: &impl Abort,
-    alloc: Global,
-    multipliers: &[i32],
-    cost: i32,
-) -> Result<Result<(), TreeFault<RowId, VarId>>, Fail> {
-    let tree = make_split::<Fraction>(alloc, multipliers)?;
-    let leaves = tree.leaves();
-    assert!(rt; leaves.is_some());
-    let mut made = [None];
-    Ok(check_tree(&Priced, &tree, Fraction::of_int(cost), &mut made))
+// A split of the term 0 whose first child splits it again.
+fn make_nested(alloc: Global) -> Result<DualTree<TermId, RowId, Fraction>, Fail> {
+    let mut children = Items::new(alloc);
+    children.push(make_split(alloc, &[1, 1])?)?;
+    let row = DualRow::of_pairs(alloc, &pairs(alloc, &[(0, 1)])?)?;
+    children.push(DualTree::AtLeast(row))?;
+    Ok(DualTree::Split(TermId::of(0), children))
 }
 
-fn fault_at(leaf: u32, fault: CertFault<RowId, VarId>) -> Result<(), TreeFault<RowId, VarId>> {
-    Err(TreeFault { leaf, fault })
+// A split of the term 0 whose second child claims that its program has no solution.
+fn make_empty_claim(alloc: Global) -> Result<DualTree<TermId, RowId, Fraction>, Fail> {
+    let mut children = Items::new(alloc);
+    let row = DualRow::of_pairs(alloc, &pairs(alloc, &[(0, 1)])?)?;
+    children.push(DualTree::AtLeast(row))?;
+    let row = FarkasRow::of_pairs(alloc, &pairs(alloc, &[(1, 1)])?)?;
+    children.push(DualTree::None(row))?;
+    Ok(DualTree::Split(TermId::of(0), children))
+}
+
+type Answer = Result<(), CertFault<RowId, VarId>>;
+
+type TreeAnswer = Result<(), TreeFault<RowId, VarId>>;
+
+// What the check of the tree answers, where its leaves can be counted.
+fn tree_answer(
+    soft: &Priced,
+    tree: &DualTree<TermId, RowId, Fraction>,
+    cost: i32,
+) -> Option<TreeAnswer> {
+    match tree.leaves() {
+        Some(_count) => {
+            let mut made = [None];
+            Some(check_tree(soft, tree, Fraction::of_int(cost), &mut made))
+        },
+        None => None,
+    }
+}
+
+// What the check of the leaf answers, where there is one.
+fn leaf_answer(
+    soft: &Priced,
+    tree: &DualTree<TermId, RowId, Fraction>,
+    leaf: u32,
+    cost: i32,
+) -> Option<Answer> {
+    match tree.leaves() {
+        Some(count) => if 1 <= leaf && leaf <= count {
+            let mut made = [None];
+            Some(check_leaf(soft, tree, leaf, Fraction::of_int(cost), &mut made))
+        } else {
+            None
+        },
+        None => None,
+    }
+}
+
+// What the check of the leaves from the second to the ninth answers.
+fn later_answer(tree: &DualTree<TermId, RowId, Fraction>, cost: i32) -> Option<TreeAnswer> {
+    match tree.leaves() {
+        Some(_count) => {
+            let mut made = [None];
+            let soft = Priced { has_base: true };
+            Some(check_leaves(&soft, tree, 2, 9, Fraction::of_int(cost), &mut made))
+        },
+        None => None,
+    }
+}
+
+fn fault_at(leaf: u32, fault: CertFault<RowId, VarId>) -> Option<TreeAnswer> {
+    Some(Err(TreeFault { leaf, fault }))
+}
+
+// The tree's check and those of its leaves, of which there are no more, answer so.
+fn answers(
+    rt: &impl Abort,
+    tree: &DualTree<TermId, RowId, Fraction>,
+    cost: i32,
+    whole: Option<TreeAnswer>,
+    leaves: &[Answer],
+) {
+    let soft = Priced { has_base: true };
+    assert_eq!(rt; tree_answer(&soft, tree, cost), whole);
+    let mut leaf: u32 = 1;
+    for answer in leaves {
+        assert_eq!(rt; leaf_answer(&soft, tree, leaf, cost), Some(*answer));
+        leaf = leaf.wrapping_add(1);
+    }
+    assert!(rt; leaf_answer(&soft, tree, leaf, cost).is_none());
+}
+
+fn negative() -> CertFault<RowId, VarId> {
+    CertFault::Negative(RowId::of(0))
 }
 
 // Each solution costs at least 2, and at least 5 where the term is paid for.
 #[test]
-fn trees_of_one_term(rt: HostRuntime) -> Result<(), Fail> {
-    let alloc = rt.alloc();
-    assert_eq!(rt; check_priced(&rt, alloc, &[1, 1], 2)?, Ok(()));
+fn trees_and_their_leaves(rt: HostRuntime) -> Result<(), Fail> {
+    let cases: [(&[i32], i32, Option<TreeAnswer>, &[Answer]); 5] = [
+        (&[1, 1], 2, Some(Ok(())), &[Ok(()), Ok(())]),
+        (
+            &[1, 1],
+            3,
+            fault_at(1, CertFault::Bound),
+            &[Err(CertFault::Bound), Ok(())],
+        ),
+        (
+            &[1, -1],
+            2,
+            fault_at(2, negative()),
+            &[Ok(()), Err(negative())],
+        ),
+        (
+            &[1],
+            2,
+            fault_at(1, CertFault::Range(0)),
+            &[Err(CertFault::Range(0))],
+        ),
+        (
+            &[],
+            2,
+            fault_at(1, CertFault::Range(0)),
+            &[Err(CertFault::Range(0))],
+        ),
+    ];
+    for (multipliers, cost, whole, leaves) in cases {
+        let tree = make_split(rt.alloc(), multipliers)?;
+        answers(&rt, &tree, cost, whole, leaves);
+    }
+    Ok(())
+}
+
+#[test]
+fn a_term_split_again_and_a_claim_of_none(rt: HostRuntime) -> Result<(), Fail> {
+    let nested = make_nested(rt.alloc())?;
+    let again = [Err(CertFault::Range(0)), Err(CertFault::Range(0)), Ok(())];
+    answers(&rt, &nested, 2, fault_at(1, CertFault::Range(0)), &again);
+    let claim = make_empty_claim(rt.alloc())?;
+    answers(
+        &rt,
+        &claim,
+        2,
+        fault_at(2, CertFault::Constant),
+        &[Ok(()), Err(CertFault::Constant)],
+    );
+    assert_eq!(rt; later_answer(&claim, 2), fault_at(2, CertFault::Constant));
+    Ok(())
+}
+
+#[test]
+fn an_undefined_base_is_wide(rt: HostRuntime) -> Result<(), Fail> {
+    let tree = make_split(rt.alloc(), &[1, 1])?;
+    let soft = Priced { has_base: false };
+    assert_eq!(rt; tree_answer(&soft, &tree, 2), fault_at(1, CertFault::Wide));
+    assert_eq!(rt; leaf_answer(&soft, &tree, 2, 2), Some(Err(CertFault::Wide)));
+    assert_eq!(rt; later_answer(&tree, 3), Some(Ok(())));
+    Ok(())
+}
+
+// 2147483647 times 2147483647, three times, is past the narrow limit.
+fn wide_answer<S: Scalar>(rt: &impl Abort, alloc: Global) -> Result<Answer, Fail> {
+    let most = 2147483647;
+    let steep: Listed<S> = make_listed(rt, alloc, &[(most, 0), (most, 0), (most, 0)], 0)?;
+    let row = FarkasRow::of_pairs(
+        alloc,
+        &pairs::<S>(alloc, &[(0, most), (1, most), (2, most)])?,
+    )?;
+    Ok(check_farkas(&steep, &row))
+}
+
+#[test]
+fn a_sum_may_be_wide(rt: HostRuntime) -> Result<(), Fail> {
     assert_eq!(rt;
-        check_priced(&rt, alloc, &[1, 1], 3)?,
-        fault_at(1, CertFault::Bound)
+        wide_answer::<Narrow>(&rt, rt.alloc())?,
+        Err(CertFault::Wide)
     );
     assert_eq!(rt;
-        check_priced(&rt, alloc, &[1, -1], 2)?,
-        fault_at(2, CertFault::Negative(RowId::of(0)))
-    );
-    assert_eq!(rt;
-        check_priced(&rt, alloc, &[1], 2)?,
-        fault_at(1, CertFault::Range(0))
-    );
-    assert_eq!(rt;
-        check_priced(&rt, alloc, &[], 2)?,
-        fault_at(1, CertFault::Range(0))
+        wide_answer::<Fraction>(&rt, rt.alloc())?,
+        Err(CertFault::Constant)
     );
     Ok(())
 }

@@ -1,11 +1,14 @@
-ghost use Rattle.std.specs.Prelude.{◌≡◌, ℕ, ◌+◌, ◌<◌, ◌≤◌, ◌^◌, Some, None, IsTrue, ◌↔◌, length, map, IsOk, IfErr, OnOk};
+//! The checks of a tree of decisions: of all its leaves, of some that follow each other, of one.
+
+ghost use Rattle.std.specs.Prelude.{◌≡◌, ℕ, ◌+◌, ◌<◌, ◌≤◌, ◌^◌, max, Some, None, IsTrue, ◌↔◌, [], ◌∷◌, length, map, IsOk, IfOk, IfErr, OnOk};
 ghost use Rattle.std.specs.List.{sum_by};
-ghost use Rattle.std.specs.Result.{MatchResult};
+ghost use Rattle.cert_core.specs.declared.program.CertFault.TheVariants.{Range};
 ghost use Rattle.cert_core.specs.Checks.{claim_of};
-ghost use Rattle.cert_core.specs.Duties.{Judges, IsFirstUnmet};
+ghost use Rattle.basics.specs.Duties.{Judges, IsFirstUnmet};
 ghost use Rattle.cert_core.specs.Faults.{fault_of, multipliers_of, tree_fault_of};
+ghost use Rattle.cert_core.specs.LeafWalks.{JudgesLeaves};
 ghost use Rattle.cert_core.specs.Soft.{AlwaysCosts, AreDecisions, AreUndecided, decide, decision_of, ways_of};
-ghost use Rattle.cert_core.specs.Trees.{AreLeavesReckoned, FailsAtFirstLeaf, ProvesTree, Shows, leaf_duties, leaves_duties, numbered_duties, JudgesLeaves, leaves_of, leaf_count, is_fit, child_leaves, top};
+ghost use Rattle.cert_core.specs.Trees.{AreLeavesReckoned, ProvesTree, Shows, leaf_duties, leaves_duties, between_duties, numbered_duties, leaves_of, leaf_count, is_fit, child_leaves, top};
 
 use crate::check::check;
 use crate::claim::Claim;
@@ -37,10 +40,68 @@ pub fn check_tree<T: Id, R: Id, V: Id, S: Scalar, P: SoftRows<T, R, V, S>>(
     ensures always_costs { OnOk result (AlwaysCosts (P.soft soft.now) (S.value cost)) }
     ensures made { made.new ≡ made.old }
 {
-    match check_part(soft, tree, cost, made, 0) {
+    check_leaves(soft, tree, 1, u32::MAX, cost, made)
+}
+
+/// Checks the leaves with the numbers from `from` to `to`, counted from 1, one after another. Below a split that can't be
+/// made each leaf has the fault `Range` of the term of the first such split from the root; else a leaf's fault is that of
+/// its base and its multipliers under the decisions above it. Numbers past the last leaf ask nothing. The tree is walked
+/// once, up to the leaf `to`.
+pub fn check_leaves<T: Id, R: Id, V: Id, S: Scalar, P: SoftRows<T, R, V, S>>(
+    soft: &P,
+    tree: &DualTree<T, R, S>,
+    from: u32,
+    to: u32,
+    cost: S,
+    made: &mut [Option<Way>],
+) -> Result<(), TreeFault<R, V>>
+    requires undecided { AreUndecided (P.soft soft.now) made.old }
+    requires countable { leaf_count tree.now < 2 ^ 32 }
+    requires from_one { 1 ≤ from }
+    requires ordered { from ≤ to }
+    ensures judged { Judges result (tree_fault_of R.number_of V.number_of)
+        (between_duties S.limit (P.soft soft.now) from to 1
+        (leaves_of T.number_of R.number_of S.value (P.soft soft.now) (S.value cost) tree.now
+        (top made.old))) }
+    ensures made { made.new ≡ made.old }
+{
+    match check_part(soft, tree, Asked { from, to, cost }, made, 0) {
         Ok(_) => Ok(()),
         Err(fault) => Err(fault),
     }
+}
+
+/// Checks the leaf with this number, counted from 1: below a split that can't be made, the fault `Range` of the term
+/// of the first such split from the root; else the base and the multipliers of the leaf under the decisions above it.
+pub fn check_leaf<T: Id, R: Id, V: Id, S: Scalar, P: SoftRows<T, R, V, S>>(
+    soft: &P,
+    tree: &DualTree<T, R, S>,
+    leaf: u32,
+    cost: S,
+    made: &mut [Option<Way>],
+) -> Result<(), CertFault<R, V>>
+    requires undecided { AreUndecided (P.soft soft.now) made.old }
+    requires countable { leaf_count tree.now < 2 ^ 32 }
+    requires from_one { 1 ≤ leaf }
+    requires in_range { leaf ≤ leaf_count tree.now }
+    ensures judged { Judges result (fault_of R.number_of V.number_of)
+        (numbered_duties S.limit (P.soft soft.now)
+        (leaves_of T.number_of R.number_of S.value (P.soft soft.now) (S.value cost) tree.now
+        (top made.old)) leaf) }
+    ensures made { made.new ≡ made.old }
+{
+    match check_leaves(soft, tree, leaf, leaf, cost, made) {
+        Ok(()) => Ok(()),
+        Err(fault) => Err(fault.fault),
+    }
+}
+
+// What a walk asks: the leaves with the numbers from `from` to `to`, and the cost that they have to prove.
+#[derive(Clone, Copy, Drop)]
+struct Asked<S> {
+    from: u32,
+    to: u32,
+    cost: S,
 }
 
 // A leaf's multipliers, for the program under the decisions above it.
@@ -81,17 +142,25 @@ fn fits<T: Id, R: Id, V: Id, S: Scalar, P: SoftRows<T, R, V, S>>(
     }
 }
 
-// The answer of a leaf as the answer of a part of a tree, after `done` leaves.
-fn at_leaf<R: Id, V: Id>(
+// The next leaf after `done` others: passed where its number is below those that are asked, else checked.
+fn check_next<T: Id, R: Id, V: Id, S: Scalar, P: SoftRows<T, R, V, S>>(
+    soft: &P,
+    made: &[Option<Way>],
+    pairs: &[(R, S)],
+    claim: Claim<S>,
+    asked: Asked<S>,
     done: u32,
-    answer: Result<(), CertFault<R, V>>,
 ) -> Result<u32, TreeFault<R, V>>
-    requires { done + 1 < 2 ^ 32 }
-    ensures { MatchResult answer
-        (λ _. result ≡ Ok (done + 1))
-        (λ fault. result ≡ Err (record { leaf = done + 1; fault = fault })) }
+    requires decisions { AreDecisions (P.soft soft.now) made.now }
+    requires inside { done < asked.to }
+    ensures { JudgesLeaves result (tree_fault_of R.number_of V.number_of) S.limit
+        (P.soft soft.now) asked.from asked.to done 1
+        (record { made = made.now; here = Shows (claim_of S.value claim) (multipliers_of R.number_of S.value pairs.now) } ∷ []) }
 {
-    match answer {
+    if done + 1 < asked.from {
+        return Ok(done + 1);
+    }
+    match check_here(soft, made, pairs, claim) {
         Ok(()) => Ok(done + 1),
         Err(fault) => Err(TreeFault {
             leaf: done + 1,
@@ -100,35 +169,67 @@ fn at_leaf<R: Id, V: Id>(
     }
 }
 
-// A part of a tree under the decisions above it, after `done` leaves: the number of leaves up to its end.
+// A part below a split of this term that can't be made, after `done` leaves: the first of its leaves that is asked has
+// the fault.
+fn refuse<T: Id, R: Id, V: Id, S>(
+    tree: &DualTree<T, R, S>,
+    t: T,
+    from: u32,
+    done: u32,
+) -> Result<u32, TreeFault<R, V>>
+    requires { done + leaf_count tree.now < 2 ^ 32 }
+    ensures passed { IfOk result (λ end. end ≡ done + leaf_count tree.now × end < from) }
+    ensures refused { IfErr result (λ fault. fault.fault ≡ Range (T.number_of t)
+        × fault.leaf ≡ max from (done + 1) × fault.leaf ≤ done + leaf_count tree.now) }
+{
+    let count = tree.leaves().unwrap();
+    let end = done + count;
+    if end < from {
+        return Ok(end);
+    }
+    Err(TreeFault {
+        leaf: if from <= done { done + 1 } else { from },
+        fault: CertFault::Range(t.number()),
+    })
+}
+
+// A part of a tree under the decisions above it, after `done` leaves: the number of leaves up to its end, or up to the
+// last that is asked.
 #[cycle(tree)]
 fn check_part<T: Id, R: Id, V: Id, S: Scalar, P: SoftRows<T, R, V, S>>(
     soft: &P,
     tree: &DualTree<T, R, S>,
-    cost: S,
+    asked: Asked<S>,
     made: &mut [Option<Way>],
     done: u32,
 ) -> Result<u32, TreeFault<R, V>>
     requires decisions { AreDecisions (P.soft soft.now) made.old }
     requires countable { done + leaf_count tree.now < 2 ^ 32 }
+    requires ordered { asked.from ≤ asked.to }
+    requires inside { done < asked.to }
     ensures made { made.new ≡ made.old }
-    ensures judged { JudgesLeaves result (tree_fault_of R.number_of V.number_of) S.limit (P.soft soft.now) done (leaf_count tree.now)
-        (leaves_of T.number_of R.number_of S.value (P.soft soft.now) (S.value cost) tree.now (top made.old)) }
+    ensures judged { JudgesLeaves result (tree_fault_of R.number_of V.number_of) S.limit
+        (P.soft soft.now) asked.from asked.to done (leaf_count tree.now)
+        (leaves_of T.number_of R.number_of S.value (P.soft soft.now) (S.value asked.cost) tree.now
+        (top made.old)) }
 {
     match tree {
-        DualTree::None(row) => at_leaf(done, check_here(soft, made, row.pairs(), Claim::Empty)),
-        DualTree::AtLeast(row) => at_leaf(
-            done,
-            check_here(soft, made, row.pairs(), Claim::AtLeast(cost)),
-        ),
+        DualTree::None(row) => { check_next(soft, made, row.pairs(), Claim::Empty, asked, done) }
+        DualTree::AtLeast(row) => {
+            check_next(
+                soft,
+                made,
+                row.pairs(),
+                Claim::AtLeast(asked.cost),
+                asked,
+                done,
+            )
+        }
         DualTree::Split(t, children) => {
             if fits(soft, made, *t, children.len()) {
-                check_children(soft, children.as_slice(), cost, made, *t, done)
+                check_children(soft, children.as_slice(), asked, made, *t, done)
             } else {
-                Err(TreeFault {
-                    leaf: done + 1,
-                    fault: CertFault::Range(t.number()),
-                })
+                refuse(tree, *t, asked.from, done)
             }
         }
     }
@@ -139,7 +240,7 @@ fn check_part<T: Id, R: Id, V: Id, S: Scalar, P: SoftRows<T, R, V, S>>(
 fn check_children<T: Id, R: Id, V: Id, S: Scalar, P: SoftRows<T, R, V, S>>(
     soft: &P,
     children: &[DualTree<T, R, S>],
-    cost: S,
+    asked: Asked<S>,
     made: &mut [Option<Way>],
     t: T,
     done: u32,
@@ -147,17 +248,23 @@ fn check_children<T: Id, R: Id, V: Id, S: Scalar, P: SoftRows<T, R, V, S>>(
     requires decisions { AreDecisions (P.soft soft.now) made.old }
     requires fits { IsTrue (is_fit (P.soft soft.now) made.old (T.number_of t) (length children.now)) }
     requires countable { done + sum_by leaf_count children.now < 2 ^ 32 }
+    requires ordered { asked.from ≤ asked.to }
+    requires inside { done < asked.to }
     ensures made { made.new ≡ made.old }
-    ensures judged { JudgesLeaves result (tree_fault_of R.number_of V.number_of) S.limit (P.soft soft.now) done (sum_by leaf_count children.now)
+    ensures judged { JudgesLeaves result (tree_fault_of R.number_of V.number_of) S.limit
+        (P.soft soft.now) asked.from asked.to done (sum_by leaf_count children.now)
         (child_leaves None made.old (T.number_of t) 0
-        (map (leaves_of T.number_of R.number_of S.value (P.soft soft.now) (S.value cost)) children.now)) }
+        (map (leaves_of T.number_of R.number_of S.value (P.soft soft.now) (S.value asked.cost)) children.now)) }
 {
     let mut done = done;
     let mut way = 0;
     for child in children {
-        match check_child(soft, child, cost, made, t, Way(way), done) {
+        match check_child(soft, child, asked, made, t, Way(way), done) {
             Ok(end) => done = end,
             Err(fault) => return Err(fault),
+        }
+        if done >= asked.to {
+            return Ok(done);
         }
         way += 1;
     }
@@ -169,7 +276,7 @@ fn check_children<T: Id, R: Id, V: Id, S: Scalar, P: SoftRows<T, R, V, S>>(
 fn check_child<T: Id, R: Id, V: Id, S: Scalar, P: SoftRows<T, R, V, S>>(
     soft: &P,
     child: &DualTree<T, R, S>,
-    cost: S,
+    asked: Asked<S>,
     made: &mut [Option<Way>],
     t: T,
     way: Way,
@@ -180,133 +287,17 @@ fn check_child<T: Id, R: Id, V: Id, S: Scalar, P: SoftRows<T, R, V, S>>(
     requires undecided { decision_of made.old (T.number_of t) ≡ None }
     requires way { way < ways_of (P.soft soft.now) (T.number_of t) }
     requires countable { done + leaf_count child.now < 2 ^ 32 }
+    requires ordered { asked.from ≤ asked.to }
+    requires inside { done < asked.to }
     ensures made { made.new ≡ made.old }
-    ensures judged { JudgesLeaves result (tree_fault_of R.number_of V.number_of) S.limit (P.soft soft.now) done (leaf_count child.now)
-        (leaves_of T.number_of R.number_of S.value (P.soft soft.now) (S.value cost) child.now
+    ensures judged { JudgesLeaves result (tree_fault_of R.number_of V.number_of) S.limit
+        (P.soft soft.now) asked.from asked.to done (leaf_count child.now)
+        (leaves_of T.number_of R.number_of S.value (P.soft soft.now) (S.value asked.cost) child.now
         (top (decide made.old (T.number_of t) way))) }
 {
     let number = t.number() as usize;
     made[number] = Some(way);
-    let answer = check_part(soft, child, cost, made, done);
+    let answer = check_part(soft, child, asked, made, done);
     made[number] = None;
     answer
 }
-
-/// Checks the leaf with this number, counted from 1: below a split that can't be made, the fault `Range` of the term
-/// of the first such split from the root; else the base and the multipliers of the leaf under the decisions above it.
-pub fn check_leaf<T: Id, R: Id, V: Id, S: Scalar, P: SoftRows<T, R, V, S>>(
-    soft: &P,
-    tree: &DualTree<T, R, S>,
-    cost: S,
-    made: &mut [Option<Way>],
-    leaf: u32,
-) -> Result<(), CertFault<R, V>>
-    requires undecided { AreUndecided (P.soft soft.now) made.old }
-    requires countable { leaf_count tree.now < 2 ^ 32 }
-    requires from_one { 1 ≤ leaf }
-    requires in_range { leaf ≤ leaf_count tree.now }
-    ensures judged { Judges result (fault_of R.number_of V.number_of)
-        (numbered_duties S.limit (P.soft soft.now)
-        (leaves_of T.number_of R.number_of S.value (P.soft soft.now) (S.value cost) tree.now (top made.old)) leaf) }
-    ensures made { made.new ≡ made.old }
-{
-    leaf_in(soft, tree, cost, made, leaf - 1)
-}
-
-// The leaf after `skip` others of a part of a tree.
-#[cycle(leaf)]
-fn leaf_in<T: Id, R: Id, V: Id, S: Scalar, P: SoftRows<T, R, V, S>>(
-    soft: &P,
-    tree: &DualTree<T, R, S>,
-    cost: S,
-    made: &mut [Option<Way>],
-    skip: u32,
-) -> Result<(), CertFault<R, V>>
-    requires decisions { AreDecisions (P.soft soft.now) made.old }
-    requires countable { leaf_count tree.now < 2 ^ 32 }
-    requires inside { skip < leaf_count tree.now }
-    ensures made { made.new ≡ made.old }
-    ensures judged { Judges result (fault_of R.number_of V.number_of)
-        (numbered_duties S.limit (P.soft soft.now)
-        (leaves_of T.number_of R.number_of S.value (P.soft soft.now) (S.value cost) tree.now (top made.old)) (skip + 1)) }
-{
-    match tree {
-        DualTree::None(row) => check_here(soft, made, row.pairs(), Claim::Empty),
-        DualTree::AtLeast(row) => check_here(soft, made, row.pairs(), Claim::AtLeast(cost)),
-        DualTree::Split(t, children) => {
-            if fits(soft, made, *t, children.len()) {
-                leaf_among(soft, children.as_slice(), cost, made, *t, skip)
-            } else {
-                Err(CertFault::Range(t.number()))
-            }
-        }
-    }
-}
-
-// The leaf after `skip` others of the children of a split that fits.
-#[cycle(leaf)]
-fn leaf_among<T: Id, R: Id, V: Id, S: Scalar, P: SoftRows<T, R, V, S>>(
-    soft: &P,
-    children: &[DualTree<T, R, S>],
-    cost: S,
-    made: &mut [Option<Way>],
-    t: T,
-    skip: u32,
-) -> Result<(), CertFault<R, V>>
-    requires decisions { AreDecisions (P.soft soft.now) made.old }
-    requires fits { IsTrue (is_fit (P.soft soft.now) made.old (T.number_of t) (length children.now)) }
-    requires countable { sum_by leaf_count children.now < 2 ^ 32 }
-    requires inside { skip < sum_by leaf_count children.now }
-    ensures made { made.new ≡ made.old }
-    ensures judged { Judges result (fault_of R.number_of V.number_of)
-        (numbered_duties S.limit (P.soft soft.now)
-        (child_leaves None made.old (T.number_of t) 0
-        (map (leaves_of T.number_of R.number_of S.value (P.soft soft.now) (S.value cost)) children.now)) (skip + 1)) }
-{
-    let mut skip = skip;
-    let mut way = 0;
-    for child in children {
-        let count = child.leaves().unwrap();
-        if skip < count {
-            return leaf_of_child(soft, child, cost, made, t, Way(way), skip);
-        }
-        skip -= count;
-        way += 1;
-    }
-    unreachable!()
-}
-
-// The leaf after `skip` others of one child, with the term decided in its way; the decision is taken back afterwards.
-#[cycle(leaf)]
-fn leaf_of_child<T: Id, R: Id, V: Id, S: Scalar, P: SoftRows<T, R, V, S>>(
-    soft: &P,
-    child: &DualTree<T, R, S>,
-    cost: S,
-    made: &mut [Option<Way>],
-    t: T,
-    way: Way,
-    skip: u32,
-) -> Result<(), CertFault<R, V>>
-    requires decisions { AreDecisions (P.soft soft.now) made.old }
-    requires term { T.number_of t < length made.old }
-    requires undecided { decision_of made.old (T.number_of t) ≡ None }
-    requires way { way < ways_of (P.soft soft.now) (T.number_of t) }
-    requires countable { leaf_count child.now < 2 ^ 32 }
-    requires inside { skip < leaf_count child.now }
-    ensures made { made.new ≡ made.old }
-    ensures judged { Judges result (fault_of R.number_of V.number_of)
-        (numbered_duties S.limit (P.soft soft.now)
-        (leaves_of T.number_of R.number_of S.value (P.soft soft.now) (S.value cost) child.now
-        (top (decide made.old (T.number_of t) way))) (skip + 1)) }
-{
-    let number = t.number() as usize;
-    made[number] = Some(way);
-    let answer = leaf_in(soft, child, cost, made, skip);
-    made[number] = None;
-    answer
-}
-
-/// The check of a tree fails exactly at the least leaf whose own check fails, with that leaf's fault.
-pub fn tree_fails_at_first_leaf<T: Id, R: Id, V: Id, S: Scalar, P: SoftRows<T, R, V, S>>(_soft: &P)
-    ensures { FailsAtFirstLeaf S.limit (P.soft _soft.now) }
-{}

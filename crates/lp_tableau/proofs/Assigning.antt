@@ -4,10 +4,10 @@ use Rattle.std.specs.Prelude.{IsTrue, if◌then◌else◌}
 use Rattle.std.proofs.lemmas.Bool.{false≢true}
 use Rattle.std.proofs.lemmas.List.{length-map, get_or-map, same_lists, get_or_default}
 use Rattle.rational.specs.Rational.{ℚ, zeroℚ, oneℚ, ◌≤ℚ◌}
-use Rattle.rational.specs.Lists.{dot}
-use Rattle.rational.proofs.Inequalities.{le_reflℚ}
+use Rattle.rational.specs.Lists.{dot, at}
+use Rattle.rational.proofs.Inequalities.{le_refl}
 use Rattle.exact_lin.specs.Ids.{nat-decide}
-use Rattle.lp_tableau.specs.Places.{at, variable_at}
+use Rattle.lp_tableau.specs.Places.{variable_at}
 use Rattle.lp_tableau.specs.Dictionaries.{Dictionary, IsEven, row_of, basic_of, nonbasic_of}
 use Rattle.lp_tableau.specs.Meanings.{Holds, IsNonneg, AreNumbered}
 use Rattle.lp_tableau.specs.Assignments.{look_up}
@@ -79,4 +79,4 @@ module _ (d : Dictionary) (even : IsEven d) (numbered : AreNumbered d) (u : List
   pub assigned-nonneg : ((j : ℕ) → j < length d.nonbasic → zeroℚ ≤ℚ at u j) → ((i : ℕ) → i < length d.rows → zeroℚ ≤ℚ dot (row_of d i) (u ++ oneℚ ∷ [])) → IsNonneg (assigned d u)
   assigned-nonneg h f v = look_up-nonneg d.basic (row_values d u) (look_up d.nonbasic u zeroℚ v) v
       (λ k l. subst (λ z. zeroℚ ≤ℚ z) (sym (get_or-map (λ row. dot row (u ++ oneℚ ∷ [])) d.rows k [] zeroℚ (omega (arith, l, even.basic)))) (f k (omega (arith, l, even.basic))))
-      (look_up-nonneg d.nonbasic u zeroℚ v h (le_reflℚ zeroℚ))
+      (look_up-nonneg d.nonbasic u zeroℚ v h (le_refl zeroℚ))

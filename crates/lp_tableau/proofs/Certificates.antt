@@ -4,23 +4,23 @@ use Rattle.std.specs.List.{AllByRecursion, range_with_len}
 use Rattle.std.proofs.lemmas.List.{length-map, length-set, length-replicate, get_or-map}
 use Rattle.std.proofs.lemmas.List.FromFn.{length-range_with_len}
 use Rattle.rational.specs.Rational.{ℚ, zeroℚ, oneℚ, ◌+ℚ◌, ◌*ℚ◌, ◌-ℚ◌, neg_ℚ, ◌≤ℚ◌}
-use Rattle.rational.specs.Lists.{dot, add_list, scale_list, Nonneg}
-use Rattle.rational.specs.Rows.{Row, sum_rows}
+use Rattle.rational.specs.Lists.{dot, add_list, scale_list, Nonneg, at}
+use Rattle.rational.specs.Rows.{Row, sum_rows, row_at}
 use Rattle.rational.proofs.Ring.{law, combine, minus, ◌⊕◌, ◌⊗◌, ◌⊖◌, ◌≐◌, ◌≼◌, ◌≺◌, num}
 use Rattle.rational.proofs.Field.{ℚ_ring}
 use Rattle.rational.proofs.Order.{ℚ_ordered}
-use Rattle.rational.proofs.Lists.{dot-add, dot-scale}
-use Rattle.rational.proofs.Inequalities.{le_reflℚ, not_lt_leℚ}
+use Rattle.rational.proofs.Rows.{length-sum_rows}
+use Rattle.rational.proofs.Lists.{at-Nonneg, length-add_list_within, dot-add, dot-scale, at-add_list}
+use Rattle.rational.proofs.Inequalities.{le_refl, not_lt_le}
 use Rattle.rational.proofs.Solve.{◌⊢◌, linear}
-use Rattle.cert_core.specs.Programs.{Program, row_at, named_rows, combination, Ascends, AreMultipliers, ProvesCost, ProvesEmpty}
+use Rattle.cert_core.specs.Programs.{Program, named_rows, combination, Ascends, AreMultipliers, ProvesCost, ProvesEmpty}
 use Rattle.cert_core.specs.Programs.{IsEven as IsEvenProgram}
-use Rattle.lp_tableau.specs.Places.{at, variable_at}
+use Rattle.lp_tableau.specs.Places.{variable_at}
 use Rattle.lp_tableau.specs.Dictionaries.{Dictionary, initial, row_of, constant_of, basic_of, value_of}
 use Rattle.lp_tableau.specs.Chains.{EndsOptimal, EndsInfeasible}
 use Rattle.lp_tableau.specs.Meanings.{Holds, IsDictionary, StandsFor}
 use Rattle.lp_tableau.specs.Assignments.{look_up}
 use Rattle.lp_tableau.specs.Multipliers.{numbered, beside_slacks, dual_of, farkas_of}
-use Rattle.lp_tableau.proofs.RowPlaces.{at-add_list}
 use Rattle.lp_tableau.proofs.Rays.{zeros}
 use Rattle.lp_tableau.proofs.Assigning.{assigned, Holds-assigned, values-assigned, look_up-nonneg}
 use Rattle.lp_tableau.proofs.Initial.{first_values, dot-negated, cost-is, slack-is, IsEven-initial, AreNumbered-initial}
@@ -91,32 +91,7 @@ dot-slacks (y ∷ ys) (row ∷ rows) x a v h f =
     (λ y d b r s all. record { from = (num 1, all ≐ y ⊗ d ⊕ s) ∷ []; goal = y ⊗ (minus d ⊕ b) ⊕ (r ⊖ s) ≐ (y ⊗ b ⊕ r) ⊖ all })
     (dot-add (scale_list y row.factors) (sum_rows ys rows).factors v ∙ ap (λ z. z +ℚ dot (sum_rows ys rows).factors v) (dot-scale y row.factors v), tt) refl
 
-length-sum_rows : (n : ℕ) (ys : List ℚ) (rows : List Row) → AllByRecursion (λ (row : Row). length row.factors ≡ n) rows → length (sum_rows ys rows).factors ≤ n
-length-sum_rows n [] rows h = omega arith
-length-sum_rows n (y ∷ ys) [] h = omega arith
-length-sum_rows n (y ∷ ys) (row ∷ rows) h = length-added (scale_list y row.factors) (sum_rows ys rows).factors n (let l = scaled y row.factors in omega (arith, l, h.0)) (length-sum_rows n ys rows h.1)
-  where
-    scaled : (y : ℚ) (u : List ℚ) → length (scale_list y u) ≡ length u
-    scaled y [] = refl
-    scaled y (a ∷ u) = ap suc (scaled y u)
-
-    length-added : (u w : List ℚ) (n : ℕ) → length u ≤ n → length w ≤ n → length (add_list u w) ≤ n
-    length-added [] w n h k = k
-    length-added (a ∷ u) [] n h k = h
-    length-added (a ∷ u) (b ∷ w) zero h k = absurd (omega arith)
-    length-added (a ∷ u) (b ∷ w) (suc n) h k = let l : length (add_list u w) ≤ n = length-added u w n (omega arith) (omega arith) in omega arith
-
 -- ---- what an equation with factors from 0 on proves
-at-Nonneg : (u : List ℚ) → ((k : ℕ) → k < length u → zeroℚ ≤ℚ at u k) → Nonneg u
-at-Nonneg [] f = tt
-at-Nonneg (a ∷ u) f = (f 0 (omega arith), at-Nonneg u (λ k h. f (suc k) (omega arith)))
-
-length-longer : (u w : List ℚ) (n : ℕ) → length u ≤ n → length w ≤ n → length (add_list u w) ≤ n
-length-longer [] w n h k = k
-length-longer (a ∷ u) [] n h k = h
-length-longer (a ∷ u) (b ∷ w) zero h k = absurd (omega arith)
-length-longer (a ∷ u) (b ∷ w) (suc n) h k = let l : length (add_list u w) ≤ n = length-longer u w n (omega arith) (omega arith) in omega arith
-
 module _ (p : Program) (even : IsEvenProgram p) (names : List ℕ) (us : List ℚ) (base k : ℚ) (c : List ℚ)
     (long : length names ≤ length us) (in_range : (i : ℕ) → i < length names → variable_at names i < length p.costs + length p.rows)
     (once : (i l : ℕ) → i < length names → l < length names → variable_at names i ≡ variable_at names l → i ≡ l)
@@ -162,18 +137,18 @@ module _ (p : Program) (even : IsEvenProgram p) (names : List ℕ) (us : List �
     pub columns-prove : Nonneg (add_list c (combination p.rows (numbered 0 multipliers)).factors)
     columns-prove = subst (λ (r : Row). Nonneg (add_list c r.factors)) (sym (combination-numbered p.rows multipliers multipliers-length))
         (at-Nonneg (add_list c (sum_rows multipliers p.rows).factors) (λ i h.
-        let l : length (add_list c (sum_rows multipliers p.rows).factors) ≤ length p.costs = length-longer c (sum_rows multipliers p.rows).factors (length p.costs) short (length-sum_rows (length p.costs) multipliers p.rows even.even) in
+        let l : length (add_list c (sum_rows multipliers p.rows).factors) ≤ length p.costs = length-add_list_within c (sum_rows multipliers p.rows).factors (length p.costs) short (length-sum_rows (length p.costs) multipliers p.rows even.even) in
         let b : i < length p.costs = omega (arith, h, l) in
         subst (λ z. zeroℚ ≤ℚ z) (sym (at-add_list c (sum_rows multipliers p.rows).factors i ∙ same-factor base k (sum_rows multipliers p.rows).bound c factors (sum_rows multipliers p.rows).factors (length p.costs) identity i b
         ∙ get_or-map (look_up names us zeroℚ) (range_with_len 0 (length p.costs)) i 0 zeroℚ (omega (arith, b, length-range_with_len 0 (length p.costs)))))
-        (look_up-nonneg names us zeroℚ _ nonneg (le_reflℚ zeroℚ))))
+        (look_up-nonneg names us zeroℚ _ nonneg (le_refl zeroℚ))))
 
     pub multipliers-prove : AreMultipliers p (numbered 0 multipliers)
     multipliers-prove = record {
       ascending = Ascends-numbered (length p.rows) 0 multipliers (omega (arith, multipliers-length));
       nonneg = numbered-nonneg 0 multipliers (λ i h. subst (λ z. zeroℚ ≤ℚ z)
           (sym (get_or-map (look_up names us zeroℚ) (range_with_len (length p.costs) (length p.rows)) i 0 zeroℚ (omega (arith, h, length-map (range_with_len (length p.costs) (length p.rows)) (look_up names us zeroℚ)))))
-          (look_up-nonneg names us zeroℚ _ nonneg (le_reflℚ zeroℚ)));
+          (look_up-nonneg names us zeroℚ _ nonneg (le_refl zeroℚ)));
     }
 
 -- ---- the rows of an ended chain
@@ -195,7 +170,7 @@ pub dual-proves : (p : Program) (d : Dictionary) → IsDictionary d → EndsOpti
 dual-proves p d is o f = subst (λ (ys : List ℚ). ProvesCost p (numbered 0 ys) (value_of d)) (sym (same-slacks p d d.nonbasic d.cost f)) (record {
   multipliers = multipliers-prove p f.even d.nonbasic d.cost p.base (value_of d) p.costs long in_range is.numbered.nonbasic says (omega arith) nonneg;
   columns = columns-prove p f.even d.nonbasic d.cost p.base (value_of d) p.costs long in_range is.numbered.nonbasic says (omega arith) nonneg;
-  constant = subst (λ z. value_of d ≤ℚ z) (sym (constant-proves p f.even d.nonbasic d.cost p.base (value_of d) p.costs long in_range is.numbered.nonbasic says)) (le_reflℚ (value_of d));
+  constant = subst (λ z. value_of d ≤ℚ z) (sym (constant-proves p f.even d.nonbasic d.cost p.base (value_of d) p.costs long in_range is.numbered.nonbasic says)) (le_refl (value_of d));
 })
   where
     long : length d.nonbasic ≤ length d.cost
@@ -208,7 +183,7 @@ dual-proves p d is o f = subst (λ (ys : List ℚ). ProvesCost p (numbered 0 ys)
     says x z h = sym (cost-is p f.even x z h) ∙ ((f.solutions x z).1 h).cost ∙ says-row d d.cost x is.even.cost ∙ law ℚ_ring (dot d.cost (map x d.nonbasic) ∷ value_of d ∷ []) (λ s b. s ⊕ b ≐ b ⊕ s) refl
 
     nonneg : (i : ℕ) → i < length d.nonbasic → zeroℚ ≤ℚ at d.cost i
-    nonneg i h = not_lt_leℚ zeroℚ (at d.cost i) (o.cheapest i h)
+    nonneg i h = not_lt_le zeroℚ (at d.cost i) (o.cheapest i h)
 
 -- the Farkas row proves that no point solves the program
 module _ (p : Program) (d : Dictionary) (i : ℕ) (is : IsDictionary d) (o : EndsInfeasible d i) (f : StandsFor p d) where
@@ -242,7 +217,7 @@ module _ (p : Program) (d : Dictionary) (i : ℕ) (is : IsDictionary d) (o : End
   nonneg : (k : ℕ) → k < length names → zeroℚ ≤ℚ at us k
   nonneg zero h = linear ℚ_ordered [] ([] ⊢ num 0 ≼ num 1) tt refl
   nonneg (suc k) h = subst (λ z. zeroℚ ≤ℚ z) (sym (get_or-map neg_ℚ (row_of d i) k zeroℚ zeroℚ (omega (arith, h, width))))
-      (linear ℚ_ordered (at (row_of d i) k ∷ []) (λ a. (a ≼ num 0 ∷ []) ⊢ num 0 ≼ minus a) (not_lt_leℚ (at (row_of d i) k) zeroℚ (o.stuck k (omega (arith, h))), tt) refl)
+      (linear ℚ_ordered (at (row_of d i) k ∷ []) (λ a. (a ≼ num 0 ∷ []) ⊢ num 0 ≼ minus a) (not_lt_le (at (row_of d i) k) zeroℚ (o.stuck k (omega (arith, h))), tt) refl)
 
   pub farkas-proves : ProvesEmpty p (numbered 0 (farkas_of d i))
   farkas-proves = subst (λ (ys : List ℚ). ProvesEmpty p (numbered 0 ys)) (sym (same-slacks p d names us f)) (record {

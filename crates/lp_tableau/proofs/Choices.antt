@@ -6,7 +6,7 @@ use Rattle.rational.specs.Rational.{ℚ, zeroℚ, ◌<ℚ◌}
 use Rattle.rational.proofs.Ring.{num, ◌≺◌, ◌≐◌}
 use Rattle.rational.proofs.Order.{ℚ_ordered}
 use Rattle.rational.proofs.Solve.{contradiction}
-use Rattle.rational.proofs.Inequalities.{pos-not_zero}
+use Rattle.rational.proofs.Inequalities.{positive_not_zero}
 use Rattle.cert_core.specs.Programs.{Program}
 use Rattle.lp_tableau.specs.Dictionaries.{Dictionary, entry_of, row_of, basic_of}
 use Rattle.lp_tableau.specs.Chains.{Chooses, Steps, Leads}
@@ -27,7 +27,7 @@ module _ (limit : ℕ) (d : Dictionary) (i j : ℕ) where
   Chooses-column c = ⊎_elim (λ a. a.enters.below) (λ a. a.0.enters.enters.below) c
 
   pub Chooses-not_zero : Chooses limit d i j → ¬ (entry_of d i j ≡ zeroℚ)
-  Chooses-not_zero c = ⊎_elim (λ a. pos-not_zero (entry_of d i j) a.enters.passes) (λ a. neg-not_zero (entry_of d i j) a.0.leaves.passes) c
+  Chooses-not_zero c = ⊎_elim (λ a. positive_not_zero (entry_of d i j) a.enters.passes) (λ a. neg-not_zero (entry_of d i j) a.0.leaves.passes) c
 
 -- a step keeps what is true of each dictionary
 pub IsDictionary-step : (limit : ℕ) (d e : Dictionary) → Steps limit d e → IsDictionary d → IsDictionary e

@@ -1,14 +1,12 @@
 -- Sums of products in which one place is changed.
 use Rattle.std.proofs.Common.{◌≡◌, ℕ, zero, suc, ◌<◌, List, [], ◌∷◌, length, refl, ap, ◌∙◌, set, arith}
 use Rattle.rational.specs.Rational.{ℚ, zeroℚ, ◌+ℚ◌, ◌*ℚ◌, ◌-ℚ◌, neg_ℚ, inverse}
-use Rattle.rational.specs.Lists.{dot, scale_list}
+use Rattle.rational.specs.Lists.{dot, scale_list, at}
 use Rattle.rational.proofs.Ring.{law, combine, minus, ◌⊕◌, ◌⊗◌, ◌⊖◌, ◌≐◌, num}
 use Rattle.rational.proofs.Field.{ℚ_ring}
 use Rattle.rational.proofs.Order.{mul-inverse}
-use Rattle.rational.proofs.Lists.{dot-add, dot-scale}
-use Rattle.lp_tableau.specs.Places.{at}
+use Rattle.rational.proofs.Lists.{dot-add, dot-scale, at-scale_list, length-scale_list}
 use Rattle.lp_tableau.specs.Pivots.{solved, replaced, cleared}
-use Rattle.lp_tableau.proofs.RowPlaces.{at-scale_list, length-scale_list}
 
 pub dot-set : (u v : List ℚ) (j : ℕ) (b y : ℚ) → j < length u → j < length v → dot (set u j b) (set v j y) ≡ dot u v -ℚ at u j *ℚ at v j +ℚ b *ℚ y
 dot-set [] v j b y h k = absurd (omega arith)

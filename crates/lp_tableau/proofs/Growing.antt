@@ -1,19 +1,14 @@
 -- Lists that a loop makes number by number: the first dictionary of a program.
-use Rattle.std.proofs.Common.{◌≡◌, ℕ, zero, suc, ◌+◌, ◌<◌, ◌≤◌, List, [], ◌∷◌, ◌++◌, length, map, take, sym, ap, subst, ◌∙◌, get_or, arith}
+use Rattle.std.proofs.Common.{◌≡◌, ℕ, ◌+◌, ◌<◌, ◌≤◌, List, [], ◌∷◌, ◌++◌, length, map, take, sym, ap, ◌∙◌, get_or, arith}
 use Rattle.std.specs.Prelude.{Vec}
-use Rattle.std.specs.List.{AllByRecursion, range_with_len}
+use Rattle.std.specs.List.{range_with_len}
 use Rattle.std.proofs.lemmas.List.{take_more, take_all, map-append, length-map, get_or-map}
 use Rattle.rational.specs.Rational.{ℚ, zeroℚ, neg_ℚ}
-use Rattle.rational.specs.Rows.{Row}
-use Rattle.cert_core.specs.Programs.{Program, IsEven, row_at, entry_of, no_row}
+use Rattle.rational.specs.Rows.{row_at, no_row}
+use Rattle.cert_core.specs.Programs.{Program, IsEven, entry_of}
 use Rattle.lp_tableau.specs.Dictionaries.{slack_row}
-
-range-more : (start k : ℕ) → range_with_len start (k + 1) ≡ range_with_len start k ++ (start + k) ∷ []
-range-more start k = subst (λ (n : ℕ). range_with_len start n ≡ range_with_len start k ++ (start + k) ∷ []) (let e : suc k ≡ k + 1 = omega arith in e) (go start k)
-  where
-    go : (start k : ℕ) → range_with_len start (suc k) ≡ range_with_len start k ++ (start + k) ∷ []
-    go start zero = ap (λ (n : ℕ). n ∷ []) (let e : start ≡ start + 0 = omega arith in e)
-    go start (suc k) = ap (λ (u : List ℕ). start ∷ u) (go (start + 1) k ∙ ap (λ (n : ℕ). range_with_len (start + 1) k ++ n ∷ []) (let e : start + 1 + k ≡ start + suc k = omega arith in e))
+use Rattle.basics.proofs.Lists.{range-more}
+use Rattle.rational.proofs.Rows.{row_at-length}
 
 pub numbers-next : (start k : ℕ) (xs : List ℕ) → xs ≡ range_with_len start k → xs ++ (start + k) ∷ [] ≡ range_with_len start (k + 1)
 numbers-next start k xs e = ap (λ (u : List ℕ). u ++ (start + k) ∷ []) e ∙ sym (range-more start k)
@@ -25,11 +20,6 @@ module _ {X Y : Type 0} (show : X → Y) (d : Y) (wanted : List Y) where
 
   pub grown-all : (xs : List X) (k : ℕ) → length wanted ≤ k → map show xs ≡ take k wanted → map show xs ≡ wanted
   grown-all xs k h e = e ∙ take_all k wanted h
-
-row_at-length : (n : ℕ) (rows : List Row) (r : ℕ) → r < length rows → AllByRecursion (λ (row : Row). length row.factors ≡ n) rows → length (row_at rows r).factors ≡ n
-row_at-length n [] r h e = absurd (omega arith)
-row_at-length n (row ∷ rows) zero h e = e.0
-row_at-length n (row ∷ rows) (suc r) h e = row_at-length n rows r (omega arith) e.1
 
 -- ---- a slack's row
 module _ {S : Type 0} (value : S → ℚ) (p : Program) (even : IsEven p) (r : ℕ) (in_range : r < length p.rows) where

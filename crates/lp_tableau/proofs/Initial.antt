@@ -1,18 +1,19 @@
 -- The first dictionary of a program says what the program says.
-use Rattle.std.proofs.Common.{◌≡◌, ℕ, zero, suc, ◌+◌, ◌<◌, List, [], ◌∷◌, ◌++◌, length, map, refl, sym, ap, subst, ◌∙◌, get_or, arith}
+use Rattle.std.proofs.Common.{◌≡◌, ℕ, ◌+◌, ◌<◌, List, [], ◌∷◌, ◌++◌, length, map, refl, sym, ap, subst, ◌∙◌, get_or, arith}
 use Rattle.std.specs.Prelude.{Vec}
-use Rattle.std.specs.List.{AllByRecursion, range_with_len}
+use Rattle.std.specs.List.{range_with_len}
 use Rattle.std.proofs.lemmas.List.{length-map, get_or-map, length-append, places}
 use Rattle.std.proofs.lemmas.List.FromFn.{length-range_with_len, get_or-range_with_len}
 use Rattle.rational.specs.Rational.{ℚ, oneℚ, ◌+ℚ◌, ◌*ℚ◌, neg_ℚ, ◌≤ℚ◌}
 use Rattle.rational.specs.Lists.{dot, Nonneg}
-use Rattle.rational.specs.Rows.{Row, Meets}
+use Rattle.rational.specs.Rows.{Row, row_at, no_row}
 use Rattle.rational.proofs.Ring.{law, minus, ◌⊕◌, ◌⊗◌, ◌≐◌, ◌≼◌, num}
 use Rattle.rational.proofs.Field.{ℚ_ring}
 use Rattle.rational.proofs.Order.{ℚ_ordered}
 use Rattle.rational.proofs.Solve.{◌⊢◌, linear}
-use Rattle.cert_core.specs.Programs.{Program, row_at, no_row, Solves, cost_at, CostsAtLeast}
+use Rattle.cert_core.specs.Programs.{Program, Solves, cost_at, CostsAtLeast}
 use Rattle.cert_core.specs.Programs.{IsEven as IsEvenProgram}
+use Rattle.rational.proofs.Rows.{at-Meets, row_at-length}
 use Rattle.lp_tableau.specs.declared.tableau.Tableau.{Tableau}
 use Rattle.lp_tableau.specs.Dictionaries.{IsEven, initial, slack_row, basic_of, nonbasic_of}
 use Rattle.lp_tableau.specs.Meanings.{Holds, IsNonneg, AreNumbered, IsDictionary, StandsFor}
@@ -26,11 +27,6 @@ AreEven-from {S} value t e = record {
   cost = sym (length-map t.cost.items value) ∙ e.cost;
   basic = e.basic ∙ length-map t.rows.items (λ row. map value row.items);
 }
-
-row_at-length : (n : ℕ) (rows : List Row) (r : ℕ) → r < length rows → AllByRecursion (λ (row : Row). length row.factors ≡ n) rows → length (row_at rows r).factors ≡ n
-row_at-length n [] r h e = absurd (omega arith)
-row_at-length n (row ∷ rows) zero h e = e.0
-row_at-length n (row ∷ rows) (suc r) h e = row_at-length n rows r (omega arith) e.1
 
 length-slack_row : (r : Row) → length (slack_row r) ≡ length r.factors + 1
 length-slack_row r = length-append (map neg_ℚ r.factors) (r.bound ∷ []) ∙ ap (λ (n : ℕ). n + 1) (length-map r.factors neg_ℚ)
@@ -49,10 +45,6 @@ pub dot-negated : (u v : List ℚ) → dot (map neg_ℚ u) v ≡ neg_ℚ (dot u 
 dot-negated [] v = law ℚ_ring [] (num 0 ≐ minus (num 0)) refl
 dot-negated (a ∷ u) [] = law ℚ_ring [] (num 0 ≐ minus (num 0)) refl
 dot-negated (a ∷ u) (c ∷ v) = ap (λ z. neg_ℚ a *ℚ c +ℚ z) (dot-negated u v) ∙ law ℚ_ring (a ∷ c ∷ dot u v ∷ []) (λ a c s. minus a ⊗ c ⊕ minus s ≐ minus (a ⊗ c ⊕ s)) refl
-
-Meets-from : (v : List ℚ) (rows : List Row) → ((i : ℕ) → i < length rows → dot (row_at rows i).factors v ≤ℚ (row_at rows i).bound) → Meets v rows
-Meets-from v [] f = tt
-Meets-from v (row ∷ rows) f = (f 0 (omega arith), Meets-from v rows (λ i h. f (suc i) (omega arith)))
 
 map-nonneg : (x : ℕ → ℚ) (vs : List ℕ) → IsNonneg x → Nonneg (map x vs)
 map-nonneg x [] h = tt
@@ -110,7 +102,7 @@ module _ (p : Program) (even : IsEvenProgram p) where
     initial-solves n = record {
       one_each = first_values-length x;
       nonneg = map-nonneg x (range_with_len 0 (length p.costs)) n;
-      meets = Meets-from (first_values x) p.rows (λ i l. linear ℚ_ordered (x (length p.costs + i) ∷ dot (row_at p.rows i).factors (first_values x) ∷ (row_at p.rows i).bound ∷ [])
+      meets = at-Meets (first_values x) p.rows (λ i l. linear ℚ_ordered (x (length p.costs + i) ∷ dot (row_at p.rows i).factors (first_values x) ∷ (row_at p.rows i).bound ∷ [])
           (λ s d b. (num 0 ≼ s ∷ s ≐ minus d ⊕ b ∷ []) ⊢ d ≼ b) (n (length p.costs + i), (slack-is i l, tt)) refl);
     }
 

@@ -1,5 +1,6 @@
 pub mod Writing
 pub mod RowPlaces
+pub mod FittingRows
 pub mod RowLists
 pub mod Firsts
 pub mod Ratios

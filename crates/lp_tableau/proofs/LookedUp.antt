@@ -1,12 +1,13 @@
 -- Values that a loop writes at the places of their variables.
 use Rattle.std.proofs.Common.{◌≡◌, ℕ, zero, suc, ◌+◌, ◌<◌, ◌≤◌, Bool, true, false, nat_eq, List, [], ◌∷◌, length, map, take, refl, sym, ap, ap₂, subst, ◌∙◌, set, ◌-◌, ⊎_elim, arith}
+use Rattle.rational.specs.Lists.{at}
 use Rattle.std.specs.Prelude.{IsTrue, if◌then◌else◌}
 use Rattle.std.specs.List.{range_with_len}
 use Rattle.std.proofs.lemmas.List.{length-map, same_lists, get_or_default, map-set, get_or-set_same, get_or-set_other}
 use Rattle.std.proofs.lemmas.List.FromFn.{length-range_with_len, get_or-map-range_with_len}
 use Rattle.rational.specs.Rational.{ℚ, zeroℚ}
 use Rattle.exact_lin.specs.Ids.{nat-decide}
-use Rattle.lp_tableau.specs.Places.{at, variable_at}
+use Rattle.lp_tableau.specs.Places.{variable_at}
 use Rattle.lp_tableau.specs.Assignments.{look_up}
 use Rattle.lp_tableau.specs.Lookups.{AreLookedUp}
 use Rattle.lp_tableau.proofs.Assigning.{choose-equal, choose-different}

@@ -4,10 +4,9 @@ use Rattle.std.specs.Prelude.{if◌then◌else◌}
 use Rattle.std.specs.List.{range_with_len}
 use Rattle.std.proofs.lemmas.List.{length-replicate}
 use Rattle.rational.specs.Rational.{ℚ, zeroℚ, oneℚ, ◌≤ℚ◌}
-use Rattle.rational.specs.Lists.{dot}
-use Rattle.rational.proofs.Inequalities.{not_lt_leℚ}
+use Rattle.rational.specs.Lists.{dot, at}
+use Rattle.rational.proofs.Inequalities.{not_lt_le}
 use Rattle.cert_core.specs.Programs.{Program, Solves, cost_at}
-use Rattle.lp_tableau.specs.Places.{at}
 use Rattle.lp_tableau.specs.Dictionaries.{Dictionary, row_of, constant_of, value_of, initial}
 use Rattle.lp_tableau.specs.Chains.{EndsOptimal}
 use Rattle.lp_tableau.specs.Meanings.{Holds, IsNonneg, IsDictionary, StandsFor}
@@ -48,7 +47,7 @@ module _ (d : Dictionary) (is : IsDictionary d) where
       let z : ℚ = dot d.cost (zeros (length d.nonbasic) ++ oneℚ ∷ []) in
       let h : Holds (initial p) x z = (f.solutions x z).0 (Holds-assigned d is.even is.numbered (zeros (length d.nonbasic)) fits) in
       let n : IsNonneg x = assigned-nonneg d is.even is.numbered (zeros (length d.nonbasic)) fits (λ j l. zeros-nonneg (length d.nonbasic) j)
-      (λ i l. subst (λ w. zeroℚ ≤ℚ w) (sym (dot-zeros (length d.nonbasic) (row_of d i) (is.even.rows i [] l))) (not_lt_leℚ zeroℚ (constant_of d i) (o.feasible i l))) in
+      (λ i l. subst (λ w. zeroℚ ≤ℚ w) (sym (dot-zeros (length d.nonbasic) (row_of d i) (is.even.rows i [] l))) (not_lt_le zeroℚ (constant_of d i) (o.feasible i l))) in
       let same : first_values p f.even x ≡ point_of d (length d.nonbasic) = same_point (range_with_len 0 (length p.costs)) ∙ ap (λ (k : ℕ). map (basic_value d) (range_with_len 0 k)) (sym f.variables) in (
         subst (Solves p) same (initial-solves p f.even x z h n),
         ap (cost_at p) (sym same) ∙ sym (cost-is p f.even x z h) ∙ dot-zeros (length d.nonbasic) d.cost is.even.cost,

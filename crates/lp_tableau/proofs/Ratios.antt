@@ -5,7 +5,7 @@ use Rattle.std.specs.Option.{option_map}
 use Rattle.rational.specs.Rational.{ℚ, zeroℚ, neg_ℚ, ◌<ℚ◌}
 use Rattle.rational.proofs.Ring.{minus, num, ◌≺◌, ◌≐◌}
 use Rattle.rational.proofs.Order.{ℚ_ordered}
-use Rattle.rational.proofs.Inequalities.{lt_transℚ}
+use Rattle.rational.proofs.Inequalities.{lt_trans}
 use Rattle.rational.proofs.Solve.{contradiction}
 use Rattle.lp_tableau.specs.Places.{FindsFirst, IsLesser}
 use Rattle.lp_tableau.specs.Dictionaries.{Dictionary}
@@ -22,7 +22,7 @@ module _ (d : Dictionary) (j : ℕ) where
 
   IsTighter-through : (i k l : ℕ) → IsTighter d j i k → IsTighter d j k l → IsTighter d j i l
   IsTighter-through i k l h m = ⊎_elim
-      (λ a. ⊎_elim (λ b. inl (lt_transℚ _ _ _ a b)) (λ b. inl (subst (λ z. ratio_of d j i <ℚ z) b.0 a)) m)
+      (λ a. ⊎_elim (λ b. inl (lt_trans _ _ _ a b)) (λ b. inl (subst (λ z. ratio_of d j i <ℚ z) b.0 a)) m)
       (λ a. ⊎_elim (λ b. inl (subst (λ z. z <ℚ ratio_of d j l) (sym a.0) b)) (λ b. inr (a.0 ∙ b.0, omega (arith, a.1, b.1))) m)
       h
 

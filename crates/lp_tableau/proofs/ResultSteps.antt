@@ -1,9 +1,10 @@
 -- The steps of the loops that write what an ended chain gives.
 use Rattle.std.proofs.Common.{◌≡◌, ℕ, zero, suc, ◌+◌, ◌<◌, ◌≤◌, List, [], ◌∷◌, length, map, take, refl, sym, ap, subst, ◌∙◌, get_or, arith}
+use Rattle.rational.specs.Lists.{at}
 use Rattle.std.proofs.lemmas.List.{length-map, get_or-map, get_or_default, take_all}
 use Rattle.rational.specs.Rational.{ℚ, zeroℚ, oneℚ, neg_ℚ}
 use Rattle.lp_tableau.specs.declared.tableau.Tableau.{Tableau}
-use Rattle.lp_tableau.specs.Places.{at, variable_at}
+use Rattle.lp_tableau.specs.Places.{variable_at}
 use Rattle.lp_tableau.specs.Dictionaries.{Dictionary, row_of, constant_of, entry_of, basic_of}
 use Rattle.lp_tableau.specs.Meanings.{IsDictionary}
 use Rattle.lp_tableau.specs.Assignments.{point_of}

@@ -1,35 +1,13 @@
 -- Rows of a dictionary, place by place.
-use Rattle.std.proofs.Common.{◌≡◌, ℕ, zero, suc, ◌+◌, ◌<◌, List, [], ◌∷◌, length, map, refl, sym, ap, subst, ◌∙◌, get_or, set, arith}
+use Rattle.std.proofs.Common.{◌≡◌, ℕ, ◌+◌, ◌<◌, List, length, map, sym, ap, subst, ◌∙◌, get_or, set, arith}
 use Rattle.std.proofs.lemmas.List.{length-set, length-map, get_or-map, map-set}
 use Rattle.rational.specs.Rational.{ℚ, zeroℚ, ◌+ℚ◌, ◌*ℚ◌, neg_ℚ, inverse}
-use Rattle.rational.specs.Lists.{add_list, scale_list}
-use Rattle.rational.proofs.Ring.{law, ◌⊕◌, ◌⊗◌, ◌≐◌, num}
-use Rattle.rational.proofs.Field.{ℚ_ring}
-use Rattle.lp_tableau.specs.Places.{at}
+use Rattle.rational.specs.Lists.{scale_list, at}
 use Rattle.exact_lin.specs.Reckoning.{CanMultiply}
-use Rattle.cert_core.specs.Sums.{CanAddProduct}
+use Rattle.exact_lin.specs.Reckonings.{AreDefined, product_sum}
 use Rattle.lp_tableau.specs.Pivots.{cleared, replaced, solved, CanReplace, CanSolve}
+use Rattle.rational.proofs.Lists.{at-add_list, at-scale_list, length-scale_list, length-add_list}
 use Rattle.lp_tableau.proofs.Writing.{Written, Written-next, Written-all}
-
-pub at-scale_list : (y : ℚ) (u : List ℚ) (k : ℕ) → at (scale_list y u) k ≡ y *ℚ at u k
-at-scale_list y [] k = law ℚ_ring (y ∷ []) (λ y. num 0 ≐ y ⊗ num 0) refl
-at-scale_list y (a ∷ u) zero = refl
-at-scale_list y (a ∷ u) (suc k) = at-scale_list y u k
-
-pub at-add_list : (u w : List ℚ) (k : ℕ) → at (add_list u w) k ≡ at u k +ℚ at w k
-at-add_list [] w k = law ℚ_ring (at w k ∷ []) (λ b. b ≐ num 0 ⊕ b) refl
-at-add_list (a ∷ u) [] k = law ℚ_ring (at (a ∷ u) k ∷ []) (λ b. b ≐ b ⊕ num 0) refl
-at-add_list (a ∷ u) (b ∷ w) zero = refl
-at-add_list (a ∷ u) (b ∷ w) (suc k) = at-add_list u w k
-
-pub length-scale_list : (y : ℚ) (u : List ℚ) → length (scale_list y u) ≡ length u
-length-scale_list y [] = refl
-length-scale_list y (a ∷ u) = ap suc (length-scale_list y u)
-
-pub length-add_list : (u w : List ℚ) → length u ≡ length w → length (add_list u w) ≡ length u
-length-add_list [] w h = sym h
-length-add_list (a ∷ u) [] h = refl
-length-add_list (a ∷ u) (b ∷ w) h = ap suc (length-add_list u w (omega arith))
 
 -- a number of the replaced row is the old one, 0 in the column, plus the product
 pub at-replaced : (solution : List ℚ) (j : ℕ) (row : List ℚ) (k : ℕ) → at (replaced solution j row) k ≡ at (cleared row j) k +ℚ at row j *ℚ at solution k
@@ -62,20 +40,20 @@ module _ {S : Type 0} (value : S → ℚ) (limit : ℕ) where
   Scaled-all y row out k h w = (λ i l. w.1.defined i (omega arith), Written-all value zeroℚ _ _ out k (w.0 ∙ sym h) (length-scale_list y (map value row) ∙ length-map row value ∙ sym h) w.1)
 
   abbrev pub Replaced : List S → List S → ℕ → List S → ℕ → Type 0
-  Replaced row solution j out k = (length out ≡ length row) × Written value zeroℚ (λ (k : ℕ). CanAddProduct limit (at (cleared (map value row) j) k) (at (map value row) j) (at (map value solution) k)) (replaced (map value solution) j (map value row)) out k
+  Replaced row solution j out k = (length out ≡ length row) × Written value zeroℚ (λ (k : ℕ). AreDefined limit (product_sum (at (cleared (map value row) j) k) (at (map value row) j) (at (map value solution) k))) (replaced (map value solution) j (map value row)) out k
 
   pub Replaced-defined : (row solution : List S) (j k : ℕ) (old factor a : S) → j < length row → k < length solution → value old ≡ at (cleared (map value row) j) k → factor ≡ get_or row j factor → a ≡ get_or solution k a
       → (value old ≡ at (cleared (map value row) j) k) × (at (map value row) j ≡ value factor) × (at (map value solution) k ≡ value a)
   Replaced-defined row solution j k old factor a h l e f g = (e, value-read row j factor h f, value-read solution k a l g)
 
   pub Replaced-next : (row solution out : List S) (j k : ℕ) (old factor a total : S) → j < length row → k < length row → length solution ≡ length row → value old ≡ at (cleared (map value row) j) k → factor ≡ get_or row j factor → a ≡ get_or solution k a
-      → CanAddProduct limit (value old) (value factor) (value a) × (value total ≡ value old +ℚ value factor *ℚ value a) → Replaced row solution j out k → Replaced row solution j (set out k total) (k + 1)
+      → AreDefined limit (product_sum (value old) (value factor) (value a)) × (value total ≡ value old +ℚ value factor *ℚ value a) → Replaced row solution j out k → Replaced row solution j (set out k total) (k + 1)
   Replaced-next row solution out j k old factor a total h l n e f g p w =
       let factor_is : at (map value row) j ≡ value factor = value-read row j factor h f in
       let a_is : at (map value solution) k ≡ value a = value-read solution k a (omega arith) g in (
         length-set out k total ∙ w.0,
         Written-next value zeroℚ _ _ out k total (omega (arith, w.0))
-            (subst (λ z. CanAddProduct limit z (at (map value row) j) (at (map value solution) k)) e (subst (λ z. CanAddProduct limit (value old) z (at (map value solution) k)) (sym factor_is) (subst (λ z. CanAddProduct limit (value old) (value factor) z) (sym a_is) p.0)))
+            (subst (λ z. AreDefined limit (product_sum z (at (map value row) j) (at (map value solution) k))) e (subst (λ z. AreDefined limit (product_sum (value old) z (at (map value solution) k))) (sym factor_is) (subst (λ z. AreDefined limit (product_sum (value old) (value factor) z)) (sym a_is) p.0)))
             (p.1 ∙ ap (λ z. z +ℚ value factor *ℚ value a) e ∙ ap (λ z. at (cleared (map value row) j) k +ℚ z *ℚ value a) (sym factor_is) ∙ ap (λ z. at (cleared (map value row) j) k +ℚ at (map value row) j *ℚ z) (sym a_is) ∙ sym (at-replaced (map value solution) j (map value row) k)) w.1,
       )
 

@@ -2,8 +2,8 @@
 use Rattle.std.proofs.Common.{◌≡◌, ℕ, zero, suc, ◌+◌, ◌<◌, ◌⊎◌, ⊎_elim, List, [], ◌∷◌, ◌++◌, length, map, refl, sym, ap, subst, ◌∙◌, set, arith}
 use Rattle.std.proofs.lemmas.List.{length-set, length-map, map-set, set-append_left, get_or-set_same, get_or-set_other, get_or-map}
 use Rattle.rational.specs.Rational.{ℚ, zeroℚ, oneℚ, ◌+ℚ◌, ◌*ℚ◌, ◌-ℚ◌, inverse}
-use Rattle.rational.specs.Lists.{dot}
-use Rattle.lp_tableau.specs.Places.{at, variable_at}
+use Rattle.rational.specs.Lists.{dot, at}
+use Rattle.lp_tableau.specs.Places.{variable_at}
 use Rattle.lp_tableau.specs.Dictionaries.{Dictionary, IsEven, row_of, entry_of, basic_of, nonbasic_of}
 use Rattle.lp_tableau.specs.Pivots.{pivoted, solved, replaced}
 use Rattle.lp_tableau.specs.Meanings.{Holds, values_of}

@@ -1,18 +1,19 @@
 -- The chain is one, and wider numbers follow it as far as narrower ones do.
-use Rattle.std.proofs.Common.{◌≡◌, ℕ, zero, suc, ◌+◌, ◌<◌, ◌≤◌, ◌⊎◌, inl, inr, ⊎_elim, List, length, refl, sym, ap, subst, ◌∙◌, [], ◌∷◌, arith}
+use Rattle.std.proofs.Common.{◌≡◌, ℕ, zero, suc, ◌<◌, ◌≤◌, ◌⊎◌, inl, inr, ⊎_elim, List, length, refl, sym, ap, subst, ◌∙◌, [], ◌∷◌, arith}
+use Rattle.rational.specs.Lists.{at}
 use Rattle.rational.specs.Rational.{ℚ, zeroℚ, ◌*ℚ◌, neg_ℚ, inverse, ◌<ℚ◌}
-use Rattle.rational.proofs.Ring.{num, ◌≺◌, ◌≐◌}
+use Rattle.rational.proofs.Ring.{◌≺◌, ◌≐◌}
 use Rattle.rational.proofs.Order.{ℚ_ordered}
 use Rattle.rational.proofs.Solve.{contradiction}
-use Rattle.exact_lin.specs.Reckoning.{narrow_limit, wide_limit, CanAdd, CanMultiply}
+use Rattle.exact_lin.specs.Reckoning.{narrow_limit, wide_limit}
 use Rattle.exact_lin.specs.Limits.{CanAdd-larger, CanMultiply-larger, narrow-below_wide}
-use Rattle.cert_core.specs.Sums.{CanAddProduct}
+use Rattle.exact_lin.specs.Reckonings.{AreDefined, product_sum}
 use Rattle.lp_tableau.specs.declared.outcome.Outcome.{Outcome}
 use Rattle.lp_tableau.specs.declared.outcome.Outcome.TheVariants.{Optimal, Infeasible, Spent, Wide}
-use Rattle.lp_tableau.specs.Places.{at, IsFirst, IsLesser}
+use Rattle.lp_tableau.specs.Places.{IsFirst, IsLesser}
 use Rattle.lp_tableau.specs.Dictionaries.{Dictionary, row_of, constant_of, entry_of}
-use Rattle.lp_tableau.specs.Pivots.{pivoted, solved, cleared, CanPivot, CanReplace, CanReplaceAll, CanSolve}
-use Rattle.lp_tableau.specs.Chains.{Chooses, Steps, Leads, HasEnded, IsUndefined, EntersSecond, LeavesTightest, IsTighter, ratio_of, CanCompare, PivotsFirst, PivotsSecond, EndsOptimal, EndsInfeasible}
+use Rattle.lp_tableau.specs.Pivots.{pivoted, solved, cleared, CanPivot, CanReplace}
+use Rattle.lp_tableau.specs.Chains.{Chooses, Steps, Leads, HasEnded, IsUndefined, LeavesTightest, IsTighter, ratio_of, CanCompare, PivotsFirst, PivotsSecond, EndsOptimal, EndsInfeasible}
 use Rattle.lp_tableau.specs.Meanings.{IsDictionary}
 use Rattle.lp_tableau.specs.Outcomes.{IsOutcome}
 use Rattle.lp_tableau.specs.Laws.{NarrowPivotsAreWide, NarrowChainsAreWide, ChoicesAreOne, OutcomesAreOne}
@@ -21,11 +22,11 @@ use Rattle.lp_tableau.proofs.Turning.{LeavesFirst-one, Chooses-not_ended, Enters
 
 -- ---- widths
 module _ (limit larger : ℕ) (h : limit ≤ larger) where
-  CanAddProduct-larger : (s y a : ℚ) → CanAddProduct limit s y a → CanAddProduct larger s y a
-  CanAddProduct-larger s y a c = record { product = CanMultiply-larger limit larger h y a c.product; total = CanAdd-larger limit larger h s (y *ℚ a) c.total }
+  product_sum-larger : (s y a : ℚ) → AreDefined limit (product_sum s y a) → AreDefined larger (product_sum s y a)
+  product_sum-larger s y a c = (CanMultiply-larger limit larger h y a c.0, (CanAdd-larger limit larger h s (y *ℚ a) c.1.0, tt))
 
   CanReplace-larger : (solution : List ℚ) (j : ℕ) (row : List ℚ) → CanReplace limit solution j row → CanReplace larger solution j row
-  CanReplace-larger solution j row c k l = CanAddProduct-larger (at (cleared row j) k) (at row j) (at solution k) (c k l)
+  CanReplace-larger solution j row c k l = product_sum-larger (at (cleared row j) k) (at row j) (at solution k) (c k l)
 
   pub CanPivot-larger : (d : Dictionary) (i j : ℕ) → CanPivot limit d i j → CanPivot larger d i j
   CanPivot-larger d i j c = record {

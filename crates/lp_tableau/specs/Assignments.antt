@@ -1,8 +1,8 @@
--- Values of all variables from those of some.
+-- Believed: values of all variables from those of some, and the point at which the nonbasic variables are 0.
 use Rattle.std.specs.Prelude.{ℕ, List, [], ◌∷◌, length, map, nat_eq, if◌then◌else◌}
+use Rattle.rational.specs.Lists.{at}
 use Rattle.std.specs.List.{range_with_len}
 use Rattle.rational.specs.Rational.{ℚ, zeroℚ}
-use Rattle.lp_tableau.specs.Places.{at}
 use Rattle.lp_tableau.specs.Dictionaries.{Dictionary}
 
 -- the number that stands beside the name v, or `other` where v is not among the names

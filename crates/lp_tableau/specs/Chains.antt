@@ -1,8 +1,9 @@
--- The chain of dictionaries that two rules of least numbers make (Bland 1977): which pivot is next, and where the chain ends.
+-- Believed: the chain of dictionaries that two rules of least numbers make (Bland 1977), which pivot is next, and where the chain ends.
 use Rattle.std.specs.Prelude.{◌≡◌, ℕ, zero, suc, ◌<◌, length, ◌⊎◌}
+use Rattle.rational.specs.Lists.{at}
 use Rattle.rational.specs.Rational.{ℚ, zeroℚ, ◌*ℚ◌, neg_ℚ, inverse, ◌<ℚ◌}
 use Rattle.exact_lin.specs.Reckoning.{CanMultiply}
-use Rattle.lp_tableau.specs.Places.{at, IsFirst, NonePasses, IsLesser}
+use Rattle.lp_tableau.specs.Places.{IsFirst, NonePasses, IsLesser}
 use Rattle.lp_tableau.specs.Dictionaries.{Dictionary, constant_of, entry_of}
 use Rattle.lp_tableau.specs.Pivots.{pivoted, CanPivot}
 

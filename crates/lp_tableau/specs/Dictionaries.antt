@@ -1,10 +1,11 @@
--- Dictionaries of a linear program (Chvátal 1983): each basic variable, and the cost, as a linear function of the nonbasic variables.
+-- Believed: dictionaries of a linear program (Chvátal 1983), each basic variable and the cost as a linear function of the nonbasic variables.
 use Rattle.std.specs.Prelude.{◌≡◌, ℕ, ◌+◌, List, [], ◌∷◌, ◌++◌, length, map, slice_index_or}
+use Rattle.rational.specs.Lists.{at}
 use Rattle.std.specs.List.{All, range_with_len}
 use Rattle.rational.specs.Rational.{ℚ, neg_ℚ}
 use Rattle.rational.specs.Rows.{Row}
 use Rattle.cert_core.specs.Programs.{Program}
-use Rattle.lp_tableau.specs.Places.{at, variable_at}
+use Rattle.lp_tableau.specs.Places.{variable_at}
 
 -- the variables' numbers, a row for each basic variable and the row of the cost; a row holds the entries of the nonbasic variables, in their order, and at the end its constant
 pub record Dictionary : Type 0 where

@@ -1,4 +1,4 @@
--- What is claimed of all chains.
+-- Believed: what is claimed of all chains.
 use Rattle.std.specs.Prelude.{◌≡◌, ℕ}
 use Rattle.exact_lin.specs.Reckoning.{narrow_limit, wide_limit}
 use Rattle.lp_tableau.specs.declared.outcome.Outcome.{Outcome}

@@ -1,7 +1,7 @@
--- A list of scalars in which each place stands for a variable.
+-- Private: a list of scalars in which each place stands for a variable.
 use Rattle.std.specs.Prelude.{◌≡◌, ℕ, ◌+◌, ◌<◌, List, length, map}
+use Rattle.rational.specs.Lists.{at}
 use Rattle.rational.specs.Rational.{ℚ, zeroℚ}
-use Rattle.lp_tableau.specs.Places.{at}
 use Rattle.lp_tableau.specs.Assignments.{look_up}
 
 -- the place of each variable, from `start` on, holds what stands beside its name, or 0

@@ -1,4 +1,4 @@
--- What a dictionary says: equations, which each point that gives every variable its value can meet or not.
+-- Believed: what a dictionary says, as equations that each point can meet or not, and when it stands for a program.
 use Rattle.std.specs.Prelude.{◌≡◌, ℕ, ◌+◌, ◌<◌, ◌↔◌, List, [], ◌∷◌, ◌++◌, length, map}
 use Rattle.rational.specs.Rational.{ℚ, zeroℚ, oneℚ, ◌≤ℚ◌}
 use Rattle.rational.specs.Lists.{dot}

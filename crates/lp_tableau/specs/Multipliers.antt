@@ -1,4 +1,4 @@
--- The rows that an ended chain gives, as multipliers of the program's rows.
+-- Believed: the rows that an ended chain gives, as multipliers of the program's rows.
 use Rattle.std.specs.Prelude.{ℕ, List, [], ◌∷◌, ◌+◌, length, map}
 use Rattle.std.specs.List.{range_with_len}
 use Rattle.rational.specs.Rational.{ℚ, zeroℚ, oneℚ, neg_ℚ}

@@ -1,4 +1,4 @@
--- What `solve` answers.
+-- Believed: what `solve` answers.
 use Rattle.std.specs.Prelude.{◌≡◌, ℕ, ◌<◌, ◌≤◌}
 use Rattle.lp_tableau.specs.declared.outcome.Outcome.{Outcome}
 use Rattle.lp_tableau.specs.declared.outcome.Outcome.TheVariants.{Optimal, Infeasible, Spent, Wide}

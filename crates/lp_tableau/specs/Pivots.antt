@@ -1,10 +1,9 @@
--- A pivot: the equation of a basic variable is solved for a nonbasic one, which takes its place.
+-- Believed: a pivot, in which the equation of a basic variable is solved for a nonbasic one that takes its place.
 use Rattle.std.specs.Prelude.{◌≡◌, ℕ, ◌<◌, List, length, map, slice_set}
 use Rattle.rational.specs.Rational.{ℚ, zeroℚ, neg_ℚ, inverse}
-use Rattle.rational.specs.Lists.{add_list, scale_list}
+use Rattle.rational.specs.Lists.{add_list, scale_list, at}
 use Rattle.exact_lin.specs.Reckoning.{CanMultiply}
-use Rattle.cert_core.specs.Sums.{CanAddProduct}
-use Rattle.lp_tableau.specs.Places.{at}
+use Rattle.exact_lin.specs.Reckonings.{AreDefined, product_sum}
 use Rattle.lp_tableau.specs.Dictionaries.{Dictionary, row_in, row_of, basic_of, nonbasic_of}
 
 -- the row solved for the variable of column j: each number times -1/p, p being the entry there, and 1/p in that column, which is now the leaving variable's
@@ -38,7 +37,7 @@ CanSolve limit row j = (k : ℕ) → k < length row → CanMultiply limit (neg_�
 
 -- each product and each sum of the replaced row is defined within the limit
 abbrev pub CanReplace : ℕ → List ℚ → ℕ → List ℚ → Type 0
-CanReplace limit solution j row = (k : ℕ) → k < length row → CanAddProduct limit (at (cleared row j) k) (at row j) (at solution k)
+CanReplace limit solution j row = (k : ℕ) → k < length row → AreDefined limit (product_sum (at (cleared row j) k) (at row j) (at solution k))
 
 -- that holds of every row but the one at i
 abbrev pub CanReplaceOthers : ℕ → List ℚ → ℕ → ℕ → List (List ℚ) → Type 0

@@ -1,10 +1,5 @@
--- Numbers by their places in a list, and the first of some places in an order.
+-- Believed: the first of some places in an order, and the variable at a place.
 use Rattle.std.specs.Prelude.{ℕ, ◌<◌, ◌≤◌, List, slice_index_or, Option, MatchOption}
-use Rattle.rational.specs.Rational.{ℚ, zeroℚ}
-
--- the number at a place; 0 past the end
-abbrev pub at : List ℚ → ℕ → ℚ
-at u k = slice_index_or u k zeroℚ
 
 -- the variable at a place; 0 past the end
 abbrev pub variable_at : List ℕ → ℕ → ℕ

@@ -1,4 +1,4 @@
--- What the code answers about the next turn.
+-- Private: what the code answers about the next turn.
 use Rattle.std.specs.Prelude.{ℕ}
 use Rattle.lp_tableau.specs.declared.turn.Turn.{Turn}
 use Rattle.lp_tableau.specs.declared.turn.Turn.TheVariants.{Optimal, Infeasible, Pivot, Wide}

@@ -1,7 +1,7 @@
--- Programs over two variables whose rows are read off a list.
-use Rattle.std.specs.Prelude.{◌≡◌, List, [], ◌∷◌, map, length, ℤ, refl}
+-- Private: the programs of the tests, over two variables, read off a list of rows or off one bound.
+use Rattle.std.specs.Prelude.{◌≡◌, List, [], ◌∷◌, map, length, ℤ, pos, negsuc, refl}
 use Rattle.std.specs.List.{AllByRecursion}
-use Rattle.rational.specs.Rational.{ℚ, whole, zeroℚ}
+use Rattle.rational.specs.Rational.{whole, zeroℚ}
 use Rattle.rational.specs.Rows.{Row}
 use Rattle.cert_core.specs.Programs.{Program, IsEven}
 
@@ -20,3 +20,14 @@ module _ {X : Type 0} (a b bound : X → ℤ) where
       each : (lines : List X) → AllByRecursion (λ (r : Row). length r.factors ≡ 2) (map two_factors lines)
       each [] = tt
       each (l ∷ lines) = (refl, each lines)
+
+-- the rows -x ≤ bound and 100 x - y ≤ 0, without a cost
+abbrev pub far_away : ℚ → Program
+far_away bound = record {
+  rows = record { factors = whole (negsuc 0) ∷ zeroℚ ∷ []; bound = bound } ∷ record { factors = whole (pos 100) ∷ whole (negsuc 0) ∷ []; bound = zeroℚ } ∷ [];
+  costs = zeroℚ ∷ zeroℚ ∷ [];
+  base = zeroℚ;
+}
+
+pub far_away-even : (bound : ℚ) → IsEven (far_away bound)
+far_away-even bound = record { even = (refl, (refl, tt)) }

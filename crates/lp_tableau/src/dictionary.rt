@@ -40,7 +40,7 @@ impl<R: Id, V: Id, S: Scalar> Model for Dictionary<R, V, S> {
 
     ghost view = { λ d. dictionary_of S.value d.tableau };
 
-    ghost invariant = { λ d. IsSound S.value d.tableau d.room };
+    ghost invariant = { λ d. IsSound S.value S.limit d.tableau d.room };
 }
 
 impl<R: Id, V: Id, S: Scalar> Dictionary<R, V, S> {

@@ -1,9 +1,8 @@
 //! The simplex method over exact numbers, on dense dictionaries.
 #![tactic(auto)]
 
-pub mod chain_laws;
 mod dictionary;
-mod numbers;
+mod laws;
 mod outcome;
 mod pivot;
 mod results;
@@ -17,4 +16,5 @@ mod turn;
 mod walk;
 
 pub use dictionary::Dictionary;
+pub use laws::{chains_are_one, narrow_chains_are_wide};
 pub use outcome::Outcome;

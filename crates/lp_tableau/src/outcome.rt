@@ -1,3 +1,5 @@
+//! How a chain of pivots ended.
+
 /// How `solve` ended.
 #[derive(Clone, Copy, Debug, Drop, PartialEq, Eq)]
 pub enum Outcome {

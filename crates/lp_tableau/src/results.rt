@@ -1,8 +1,8 @@
 //! What an ended chain gives: a point, and multipliers of the rows.
 
 ghost use Rattle.std.specs.Prelude.{◌≡◌, ℕ, ◌+◌, ◌<◌, nat_eq, if◌then◌else◌, length, map};
+ghost use Rattle.rational.specs.Lists.{at};
 ghost use Rattle.rational.specs.Rational.{zeroℚ};
-ghost use Rattle.lp_tableau.specs.Places.{at};
 ghost use Rattle.lp_tableau.specs.Assignments.{point_of};
 ghost use Rattle.lp_tableau.specs.Meanings.{IsDictionary};
 ghost use Rattle.lp_tableau.specs.Multipliers.{dual_of, farkas_of};

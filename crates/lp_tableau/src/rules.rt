@@ -9,9 +9,8 @@ ghost use Rattle.lp_tableau.specs.Places.{FindsFirst, IsLesser};
 ghost use Rattle.lp_tableau.specs.Chains.{IsNegative, IsRaising, IsCheaper, IsFalling, IsTighter, CanRatio, CanCompare, ratio_of};
 ghost use Rattle.lp_tableau.specs.Tableaus.{AreEven, dictionary_of};
 
-use crate::numbers::{is_negative, is_positive};
 use crate::tableau::Tableau;
-use exact_lin::{Scalar, Wide};
+use exact_lin::{Scalar, Wide, is_negative, is_positive};
 use std::cmp::Ordering;
 
 // The place of the lesser number: the best so far, or k.

@@ -1,10 +1,11 @@
 //! The first dictionary of a program.
 
 ghost use Rattle.std.specs.Prelude.{◌≡◌, ℕ, ◌+◌, ◌<◌, ◌^◌, length, map, IfOk, ◌++◌, ◌∷◌, []};
+ghost use Rattle.rational.specs.Rows.{row_at};
 ghost use Rattle.std.specs.List.{range_with_len};
-ghost use Rattle.cert_core.specs.Programs.{row_at};
+ghost use Rattle.exact_lin.specs.Reckoning.{Fits};
 ghost use Rattle.lp_tableau.specs.Dictionaries.{initial, slack_row};
-ghost use Rattle.lp_tableau.specs.RowLists.{shown_rows, HaveWidth};
+ghost use Rattle.lp_tableau.specs.RowLists.{shown_rows, HaveWidth, RowFits, RowsFit};
 ghost use Rattle.lp_tableau.specs.Tableaus.{AreEven, IsRoomFor, dictionary_of};
 
 use crate::pivot::Room;
@@ -25,6 +26,15 @@ fn numbers(alloc: Global, start: usize, count: usize) -> Result<Vec<usize>, NoMe
     Ok(numbers)
 }
 
+// The number, which keeps to the limit of its width.
+fn kept<S: Scalar>(x: S) -> S
+    ensures value { S.value result ≡ S.value x }
+    ensures fits { Fits S.limit (S.value result) }
+{
+    let _sign = x.sign();
+    x
+}
+
 // The row of a slack: the bound less the row's factors times the variables.
 fn slack<R: Id, V: Id, S: Scalar, P: Rows<R, V, S>>(
     alloc: Global,
@@ -32,13 +42,15 @@ fn slack<R: Id, V: Id, S: Scalar, P: Rows<R, V, S>>(
     r: R,
 ) -> Result<Vec<S>, NoMemory>
     requires { R.number_of r < length (P.program program.now).rows }
-    ensures { IfOk result (λ v. map S.value v.items ≡ slack_row (row_at (P.program program.now).rows (R.number_of r))) }
+    ensures row { IfOk result (λ v. map S.value v.items
+        ≡ slack_row (row_at (P.program program.now).rows (R.number_of r))) }
+    ensures fits { IfOk result (λ v. RowFits S.limit (map S.value v.items)) }
 {
     let mut row = Vec::new(alloc);
     for v in 0..program.var_count() {
-        row.push(program.entry(r, V::of(v)).neg())?;
+        row.push(kept(program.entry(r, V::of(v)).neg()))?;
     }
-    row.push(program.bound(r))?;
+    row.push(kept(program.bound(r)))?;
     Ok(row)
 }
 
@@ -47,7 +59,8 @@ fn slacks<R: Id, V: Id, S: Scalar, P: Rows<R, V, S>>(
     alloc: Global,
     program: &P,
 ) -> Result<Vec<Vec<S>>, NoMemory>
-    ensures { IfOk result (λ v. shown_rows S.value v.items ≡ map slack_row (P.program program.now).rows) }
+    ensures rows { IfOk result (λ v. shown_rows S.value v.items ≡ map slack_row (P.program program.now).rows) }
+    ensures fits { IfOk result (λ v. RowsFit S.limit (shown_rows S.value v.items)) }
 {
     let mut rows = Vec::new(alloc);
     for r in 0..program.row_count() {
@@ -76,7 +89,8 @@ pub(crate) fn first_tableau<R: Id, V: Id, S: Scalar, P: Rows<R, V, S>>(
     alloc: Global,
     program: &P,
 ) -> Result<Tableau<S>, NoMemory>
-    ensures { IfOk result (λ t. dictionary_of S.value t ≡ initial (P.program program.now)) }
+    ensures dictionary { IfOk result (λ t. dictionary_of S.value t ≡ initial (P.program program.now)) }
+    ensures fits { IfOk result (λ t. RowsFit S.limit (shown_rows S.value t.rows.items)) }
 {
     let variables = program.var_count() as usize;
     let basic = numbers(alloc, variables, program.row_count() as usize)?;
@@ -91,25 +105,33 @@ pub(crate) fn first_tableau<R: Id, V: Id, S: Scalar, P: Rows<R, V, S>>(
     })
 }
 
-// Rows of room.
-fn room_rows<S: Scalar>(alloc: Global, rows: &[Vec<S>]) -> Result<Vec<Vec<S>>, NoMemory>
-    ensures count { IfOk result (λ v. length v.items ≡ length rows.now) }
-    ensures widths { IfOk result (λ v. (n : ℕ) → HaveWidth n rows.now → HaveWidth n v.items) }
+// Spare rows as wide as this row.
+fn spare_rows<S: Scalar>(alloc: Global, row: &[S], count: usize) -> Result<Vec<Vec<S>>, NoMemory>
+    ensures count { IfOk result (λ v. length v.items ≡ count) }
+    ensures widths { IfOk result (λ v. HaveWidth (length row.now) v.items) }
 {
-    let mut room = Vec::new(alloc);
-    for row in rows {
-        room.push(Vec::from_slice(alloc, row)?)?;
+    let mut spare = Vec::new(alloc);
+    for _k in 0..count {
+        spare.push(Vec::from_slice(alloc, row)?)?;
     }
-    Ok(room)
+    Ok(spare)
 }
 
-// Room for the rows after a pivot.
+// So many rows at most have a spare row of their own.
+const OWN_SPARE_ROWS: usize = 256;
+
+// Room for what a pivot reckons: a spare row for each of the first rows, and one for all the others.
 pub(crate) fn room_for<S: Scalar>(alloc: Global, t: &Tableau<S>) -> Result<Room<S>, NoMemory>
     requires { AreEven t.now }
     ensures { IfOk result (IsRoomFor t.now) }
 {
+    let own = if t.rows.len() < OWN_SPARE_ROWS {
+        t.rows.len()
+    } else {
+        OWN_SPARE_ROWS
+    };
     let solution = Vec::from_slice(alloc, &t.cost)?;
-    let rows = room_rows(alloc, &t.rows)?;
+    let rows = spare_rows(alloc, &t.cost, own + 1)?;
     let cost = Vec::from_slice(alloc, &t.cost)?;
     Ok(Room {
         solution,

@@ -1,7 +1,7 @@
 //! The numbers of a dictionary, and how they are read.
 
 ghost use Rattle.std.specs.Prelude.{◌≡◌, ◌<◌, length};
-ghost use Rattle.lp_tableau.specs.Places.{at};
+ghost use Rattle.rational.specs.Lists.{at};
 ghost use Rattle.lp_tableau.specs.Dictionaries.{constant_of, entry_of, value_of};
 ghost use Rattle.lp_tableau.specs.Tableaus.{AreEven, dictionary_of};
 

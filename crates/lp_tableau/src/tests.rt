@@ -1,3 +1,5 @@
+//! Small programs, solved at both widths.
+
 ghost use Rattle.std.specs.Prelude.{◌≡◌, length, IfOk, IfSome};
 
 use crate::{Dictionary, Outcome};
@@ -64,6 +66,101 @@ impl<R: Id, V: Id, S: Scalar> Rows<R, V, S> for Listed {
     ghost even = { λ p. two_variables-even _ _ _ p.lines p.c p.d };
 }
 
+// Two rows over one variable x, each a factor and a bound, and the cost's factor.
+#[derive(Drop)]
+struct OneVariable {
+    rows: [(i32, i32); 2],
+    cost: i32,
+}
+
+impl<R: Id, V: Id, S: Scalar> Rows<R, V, S> for OneVariable {
+    ghost use Rattle.rational.specs.Rational.{whole};
+    ghost use Rattle.std.specs.Prelude.{pos};
+    ghost use Rattle.cert_core.specs.Listed.{listed_program, listed-even};
+
+    ghost program = { λ p. listed_program whole p.rows p.cost (pos 0) };
+
+    fn row_count(&self) -> u32 {
+        2
+    }
+
+    fn var_count(&self) -> u32 {
+        1
+    }
+
+    fn entry(&self, r: R, _v: V) -> S {
+        let row = self.rows[r.number() as usize];
+        S::of_int(row.0)
+    }
+
+    fn bound(&self, r: R) -> S {
+        let row = self.rows[r.number() as usize];
+        S::of_int(row.1)
+    }
+
+    fn cost(&self, _v: V) -> S {
+        S::of_int(self.cost)
+    }
+
+    fn base(&self) -> S {
+        S::of_int(0)
+    }
+
+    ghost even = { λ p. listed-even whole p.rows p.cost (pos 0) };
+}
+
+// The rows -x <= bound and 100 x - y <= 0, without a cost.
+#[derive(Drop)]
+struct FarAway<S> {
+    bound: S,
+}
+
+impl<R: Id, V: Id, S: Scalar> Rows<R, V, S> for FarAway<S> {
+    ghost use Rattle.lp_tableau.specs.TwoVariables.{far_away, far_away-even};
+
+    ghost program = { λ p. far_away (S.value p.bound) };
+
+    fn row_count(&self) -> u32 {
+        2
+    }
+
+    fn var_count(&self) -> u32 {
+        2
+    }
+
+    fn entry(&self, r: R, v: V) -> S {
+        if r.number() == 0 {
+            if v.number() == 0 {
+                S::of_int(-1)
+            } else {
+                S::of_int(0)
+            }
+        } else if v.number() == 0 {
+            S::of_int(100)
+        } else {
+            S::of_int(-1)
+        }
+    }
+
+    fn bound(&self, r: R) -> S {
+        if r.number() == 0 {
+            self.bound
+        } else {
+            S::of_int(0)
+        }
+    }
+
+    fn cost(&self, _v: V) -> S {
+        S::of_int(0)
+    }
+
+    fn base(&self) -> S {
+        S::of_int(0)
+    }
+
+    ghost even = { λ p. far_away-even (S.value p.bound) };
+}
+
 // A program, a row of the program that, taken once, bounds its cost from below by `least`, and what comes of it under a budget.
 #[derive(Clone, Copy)]
 struct Case {
@@ -81,28 +178,37 @@ fn are<S: Scalar>(out: &[S], wanted: &[i32]) -> bool {
     out.len() == wanted.len() && out.iter().zip(wanted).all(|(x, n)| *x == S::of_int(*n))
 }
 
-// The first dictionary of the case's program.
-fn first<S: Scalar>(
+// The first dictionary of a program whose cost is at least `least`, as a row tells, taken once, or no row.
+fn first_of<S: Scalar, P: Rows<RowId, VarId, S>>(
     alloc: Global,
-    case: &Case,
+    program: &P,
+    bounding: Option<u32>,
+    least: i32,
 ) -> Result<Option<Dictionary<RowId, VarId, S>>, NoMemory>
-    ensures variables { IfOk result (λ found. IfSome found (λ d. length d.nonbasic ≡ 2)) }
-    ensures rows { IfOk result (λ found. IfSome found (λ d. length d.rows ≡ 3)) }
+    ensures variables { IfOk result (λ found. IfSome found (λ d.
+        length d.nonbasic ≡ length (P.program program.now).costs)) }
+    ensures rows { IfOk result (λ found. IfSome found (λ d.
+        length d.rows ≡ length (P.program program.now).rows)) }
 {
     let mut pairs = Vec::new(alloc);
-    if let Some(row) = case.bounding {
+    if let Some(row) = bounding {
         pairs.push((RowId::of(row), S::of_int(1)))?;
     }
     let row = DualRow::of_pairs(alloc, &pairs)?;
-    match check_dual::<RowId, VarId, S, Listed>(&case.program, &row, S::of_int(case.least)) {
-        Ok(()) => Ok(Some(Dictionary::new(alloc, &case.program)?)),
+    match check_dual::<RowId, VarId, S, P>(program, &row, S::of_int(least)) {
+        Ok(()) => Ok(Some(Dictionary::new(alloc, program)?)),
         Err(_) => Ok(None),
     }
 }
 
 // Whether the case comes out as it says.
 fn holds<S: Scalar>(alloc: Global, case: &Case) -> Result<bool, NoMemory> {
-    let mut dictionary = match first::<S>(alloc, case)? {
+    let mut dictionary = match first_of::<S, Listed>(
+        alloc,
+        &case.program,
+        case.bounding,
+        case.least,
+    )? {
         Some(dictionary) => dictionary,
         None => return Ok(false),
     };
@@ -128,7 +234,7 @@ fn holds<S: Scalar>(alloc: Global, case: &Case) -> Result<bool, NoMemory> {
 }
 
 fn outcome_is<S: Scalar>(alloc: Global, case: &Case, outcome: Outcome) -> Result<bool, NoMemory> {
-    match first::<S>(alloc, case)? {
+    match first_of::<S, Listed>(alloc, &case.program, case.bounding, case.least)? {
         Some(mut dictionary) => Ok(dictionary.solve(case.budget) == outcome),
         None => Ok(false),
     }
@@ -248,6 +354,99 @@ fn a_pivot_may_be_wide(rt: HostRuntime) -> Result<(), Fail> {
         };
         assert!(rt; outcome_is::<Narrow>(rt.alloc(), &case, narrow)?);
         assert!(rt; outcome_is::<Fraction>(rt.alloc(), &case, wide)?);
+    }
+    Ok(())
+}
+
+// Whether the rows x <= 1 and -x <= -2 have no solution, told after one pivot by the Farkas row 1, 1.
+fn one_variable_has_none<S: Scalar>(alloc: Global) -> Result<bool, NoMemory> {
+    let program = OneVariable {
+        rows: [(1, 1), (-1, -2)],
+        cost: 0,
+    };
+    let Some(mut dictionary) = first_of::<S, OneVariable>(alloc, &program, None, 0)? else {
+        return Ok(false);
+    };
+    let spent = dictionary.solve(0) == Outcome::Spent(0);
+    let mut farkas = [S::of_int(0); 2];
+    match dictionary.solve(1) {
+        Outcome::Infeasible => dictionary.farkas_into(&mut farkas),
+        Outcome::Optimal | Outcome::Spent(_) | Outcome::Wide(_) => {},
+    }
+    Ok(spent && are(&farkas, &[1, 1]))
+}
+
+// Whether the rows -x <= -2 and x <= 5 with the cost x have 2 as their least, told after one pivot.
+fn one_variable_costs_two<S: Scalar>(alloc: Global) -> Result<bool, NoMemory> {
+    let program = OneVariable {
+        rows: [(-1, -2), (1, 5)],
+        cost: 1,
+    };
+    let Some(mut dictionary) = first_of::<S, OneVariable>(alloc, &program, Some(0), 2)? else {
+        return Ok(false);
+    };
+    let mut dual = [S::of_int(0); 2];
+    let mut point = [S::of_int(0)];
+    let mut value = S::of_int(0);
+    match dictionary.solve(1) {
+        Outcome::Optimal => {
+            value = dictionary.value();
+            dictionary.dual_into(&mut dual);
+            dictionary.point_into(&mut point);
+        },
+        Outcome::Infeasible | Outcome::Spent(_) | Outcome::Wide(_) => {},
+    }
+    Ok(are(&dual, &[1, 0]) && are(&point, &[2]) && value == S::of_int(2))
+}
+
+#[test]
+fn programs_over_one_variable(rt: HostRuntime) -> Result<(), Fail> {
+    assert!(rt; one_variable_has_none::<Fraction>(rt.alloc())?);
+    assert!(rt; one_variable_has_none::<Narrow>(rt.alloc())?);
+    assert!(rt; one_variable_costs_two::<Fraction>(rt.alloc())?);
+    assert!(rt; one_variable_costs_two::<Narrow>(rt.alloc())?);
+    Ok(())
+}
+
+// The outcome of the program with x at least 10^18 under this budget, and the point where it has one.
+fn far_outcome<S: Scalar>(
+    alloc: Global,
+    budget: u64,
+) -> Result<Option<(Outcome, [S; 2])>, NoMemory> {
+    let Ok(bound) = S::of_int(-1000000000).mul(S::of_int(1000000000)) else {
+        return Ok(None);
+    };
+    let program = FarAway { bound };
+    let Some(mut dictionary) = first_of::<S, FarAway<S>>(alloc, &program, None, 0)? else {
+        return Ok(None);
+    };
+    let mut point = [S::of_int(0); 2];
+    let outcome = dictionary.solve(budget);
+    match outcome {
+        Outcome::Optimal => dictionary.point_into(&mut point),
+        Outcome::Infeasible | Outcome::Spent(_) | Outcome::Wide(_) => {},
+    }
+    Ok(Some((outcome, point)))
+}
+
+// Whether y is 100 times x, and x is 10^18.
+fn is_far_point(point: [Fraction; 2]) -> bool {
+    match Fraction::of_int(1000000000).mul(Fraction::of_int(1000000000)) {
+        Ok(far) => point[0] == far && far.mul(Fraction::of_int(100)) == Ok(point[1]),
+        Err(_) => false,
+    }
+}
+
+// 100 * 10^18 has no narrow parts.
+#[test]
+fn a_far_point_is_wide(rt: HostRuntime) -> Result<(), Fail> {
+    let none = [Narrow::of_int(0); 2];
+    assert!(rt; far_outcome::<Narrow>(rt.alloc(), 5)? == Some((Outcome::Wide(0), none)));
+    let start = [Fraction::of_int(0); 2];
+    assert!(rt; far_outcome::<Fraction>(rt.alloc(), 1)? == Some((Outcome::Spent(1), start)));
+    match far_outcome::<Fraction>(rt.alloc(), 2)? {
+        Some((outcome, point)) => assert!(rt; outcome == Outcome::Optimal && is_far_point(point)),
+        None => assert!(rt; false),
     }
     Ok(())
 }

@@ -1,7 +1,7 @@
 use Rattle.std.proofs.Common.{drop}
 use Rattle.cert_core.specs.Checks.{sign_duties}
 use Rattle.cert_core.specs.Faults.{multipliers_of}
-use Rattle.cert_core.proofs.Judging.{ComesDownTo}
+use Rattle.basics.proofs.Duties.{ComesDownTo}
 use Rattle.cert_core.proofs.check.check_signs.Given as goal
 
 abbrev pub invariant-loop-pair : goal.invariant-loop-pair

@@ -1,7 +1,7 @@
 use Rattle.std.proofs.Common.{drop}
 use Rattle.cert_core.specs.Checks.{claim_of, constant_start, constant_terms}
 use Rattle.cert_core.specs.Faults.{multipliers_of}
-use Rattle.cert_core.proofs.PartialSums.{GoesOn}
+use Rattle.exact_lin.proofs.Reckonings.{GoesOn}
 use Rattle.cert_core.proofs.sums.constant_sum.Given as goal
 
 abbrev pub invariant-loop-pair : goal.invariant-loop-pair

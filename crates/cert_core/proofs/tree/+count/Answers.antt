@@ -3,7 +3,7 @@ use Rattle.std.specs.List.{sum_by}
 use Rattle.std.specs.Option.{SomeIff}
 use Rattle.cert_core.specs.Trees.{leaf_count}
 use Rattle.cert_core.proofs.Counting.{leaf_count-sum, leaf_count-none, leaf_count-at_least, leaf_count-some}
-use Rattle.cert_core.proofs.TreeParts.{drop_all}
+use Rattle.std.proofs.lemmas.List.{drop_all}
 use Rattle.cert_core.proofs.tree.+count.Goals as goal
 
 not_empty : (b : Bool) → b ≡ true → b ≡ false → ⊥
@@ -31,5 +31,5 @@ DualTree::leaves-returns-else-is_empty g t c =
 
 pub leaves_of_all-returns : goal.leaves_of_all-returns
 leaves_of_all-returns g t c =
-    let total : c.loop-tree.total ≡ sum_by leaf_count c.args.trees.now = omega (arith, c.loop-tree.invariant.1, ap (sum_by leaf_count) (drop_all c.args.trees.now c.loop-tree.tree-index (omega (arith, c.loop-tree-test.false)))) in
+    let total : c.loop-tree.total ≡ sum_by leaf_count c.args.trees.now = omega (arith, c.loop-tree.invariant.1, ap (sum_by leaf_count) (drop_all c.loop-tree.tree-index c.args.trees.now (omega (arith, c.loop-tree-test.false)))) in
     (subst (λ (n : ℕ). n < 4294967296) total c.loop-tree.invariant.0, total)

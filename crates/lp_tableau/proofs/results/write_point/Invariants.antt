@@ -1,5 +1,5 @@
 use Rattle.std.proofs.Common.{◌≡◌, length, map, take}
-use Rattle.lp_tableau.specs.Places.{at}
+use Rattle.rational.specs.Lists.{at}
 use Rattle.lp_tableau.specs.Lookups.{AreLookedUp}
 use Rattle.lp_tableau.specs.Tableaus.{dictionary_of}
 use Rattle.lp_tableau.proofs.results.write_point.Given as goal

@@ -1,8 +1,7 @@
 use Rattle.std.proofs.Common.{◌≡◌, ℕ, length, map}
 use Rattle.rational.specs.Rational.{zeroℚ}
-use Rattle.rational.specs.Lists.{scale_list}
+use Rattle.rational.specs.Lists.{scale_list, at}
 use Rattle.exact_lin.specs.Reckoning.{CanMultiply}
-use Rattle.lp_tableau.specs.Places.{at}
 use Rattle.lp_tableau.proofs.Writing.{Written}
 use Rattle.lp_tableau.proofs.rows.scale_row.Given as goal
 

@@ -8,5 +8,5 @@ use Rattle.lp_tableau.proofs.rules.tightest.Goals.{then-is_negative+in-Ok, else-
 pub loop-i-preserved : goal.loop-i-preserved
 loop-i-preserved g c = elim c.if-is_negative.branch [
   | then-is_negative+in-Ok w ↦ subst (λ b. AreTightest (dictionary_of g.S.Scalar.value c.args.t.now) c.args.j g.S.Scalar.value g.S.Scalar.limit b (c.loop-i.i + 1)) (sym w.best-is) (AreTightest-take (dictionary_of g.S.Scalar.value c.args.t.now) c.args.j g.S.Scalar.value g.S.Scalar.limit c.loop-i.best c.loop-i.i w.in-Ok.ratio w.tighter.result (subst (λ z. z <ℚ zeroℚ) c.entry.ensures (w.if-is_negative.ensures {u = tt})) (w.in-Ok.ensures {u = tt}) (subst (λ xs. Better (dictionary_of g.S.Scalar.value c.args.t.now) c.args.j g.S.Scalar.value g.S.Scalar.limit xs c.loop-i.best c.loop-i.i w.in-Ok.ratio w.tighter.result) w.deref.ensures.value w.tighter.ensures) c.loop-i.invariant)
-  | else-is_negative w ↦ subst (λ b. AreTightest (dictionary_of g.S.Scalar.value c.args.t.now) c.args.j g.S.Scalar.value g.S.Scalar.limit b (c.loop-i.i + 1)) (sym w.best-is) (AreTightest-skip (dictionary_of g.S.Scalar.value c.args.t.now) c.args.j g.S.Scalar.value g.S.Scalar.limit c.loop-i.best c.loop-i.i (λ h. (w.if-is_negative.ensures {u = tt}) (subst (λ z. z <ℚ zeroℚ) (sym c.entry.ensures) h)) c.loop-i.invariant)
+  | else-is_negative w ↦ subst (λ b. AreTightest (dictionary_of g.S.Scalar.value c.args.t.now) c.args.j g.S.Scalar.value g.S.Scalar.limit b (c.loop-i.i + 1)) (sym w.best-is) (AreTightest-skip (dictionary_of g.S.Scalar.value c.args.t.now) c.args.j g.S.Scalar.value g.S.Scalar.limit c.loop-i.best c.loop-i.i (λ h. (w.if-is_negative.ensures {u = tt}).1 (subst (λ z. z <ℚ zeroℚ) (sym c.entry.ensures) h)) c.loop-i.invariant)
 ]

@@ -1,6 +1,6 @@
 use Rattle.std.proofs.Common.{map}
 use Rattle.task_types.specs.declared.tokens.Token.TheVariants as token
-use Rattle.task_types.specs.Numbers.{are_several}
+use Rattle.task_types.specs.Sets.{are_several}
 use Rattle.task_types.specs.Touch.{tokens, trail_facts, soft_facts}
 use Rattle.task_types.proofs.Places.{map-filter-append, six_put}
 use Rattle.task_types.proofs.touches.tokens.push_tokens.Goals as goal

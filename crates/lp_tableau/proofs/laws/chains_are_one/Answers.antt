@@ -1,5 +1,5 @@
 use Rattle.lp_tableau.proofs.Uniqueness.{choices-one, outcomes-one}
-use Rattle.lp_tableau.proofs.chain_laws.chains_are_one.Goals as goal
+use Rattle.lp_tableau.proofs.laws.chains_are_one.Goals as goal
 
 pub returns-clause-choices : goal.returns-clause-choices
 returns-clause-choices c = choices-one

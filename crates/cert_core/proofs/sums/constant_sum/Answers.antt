@@ -1,0 +1,18 @@
+use Rattle.std.proofs.Common.{ap}
+use Rattle.cert_core.specs.Checks.{claim_of, constant_terms}
+use Rattle.cert_core.specs.Faults.{multipliers_of}
+use Rattle.cert_core.proofs.PartialSums.{GoesOn-rest, GoesOn-read, GoesOn-wide}
+use Rattle.cert_core.proofs.TreeParts.{drop_item}
+use Rattle.cert_core.proofs.sums.constant_sum.Goals as goal
+
+pub returns-in-Err : goal.returns-in-Err
+returns-in-Err g c =
+    let item = drop_item c.args.pairs.now c.loop-pair.pair-index c.pair-item.result c.loop-pair-test.true c.pair-item.is in
+    GoesOn-wide _ _ _ _ _ _ _ _ c.signed_bound_of.ensures c.in-Err.ensures
+    (GoesOn-rest _ _ _ _ (ap (λ ys. constant_terms (g.P.Rows.program c.args.program.now) (claim_of g.S.Scalar.value c.args.claim) (multipliers_of g.R.Id.number_of g.S.Scalar.value ys)) item) c.loop-pair.invariant)
+
+pub loop-pair-preserved : goal.loop-pair-preserved
+loop-pair-preserved g c =
+    let item = drop_item c.args.pairs.now c.loop-pair.pair-index c.pair-item.result c.loop-pair-test.true c.pair-item.is in
+    GoesOn-read _ _ _ _ _ _ _ _ _ c.signed_bound_of.ensures c.in-Ok.ensures.1 c.in-Ok.ensures.0
+    (GoesOn-rest _ _ _ _ (ap (λ ys. constant_terms (g.P.Rows.program c.args.program.now) (claim_of g.S.Scalar.value c.args.claim) (multipliers_of g.R.Id.number_of g.S.Scalar.value ys)) item) c.loop-pair.invariant)

@@ -1,5 +1,0 @@
-use Rattle.cert_core.proofs.SingleLeaf.{fails-at_first_leaf}
-use Rattle.cert_core.proofs.tree_check.tree_fails_at_first_leaf.Goals as goal
-
-pub returns : goal.returns
-returns g c = fails-at_first_leaf g.S.Scalar.limit (g.P.SoftRows.soft c.args._soft.now)
