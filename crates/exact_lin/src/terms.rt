@@ -5,11 +5,12 @@ ghost use Rattle.rational.specs.Rational.{ℚ, ◌+ℚ◌};
 ghost use Rattle.exact_lin.specs.Reckoning.{CanAdd, Fits, Reckons};
 ghost use Rattle.std.specs.Result.{MatchResult};
 ghost use Rattle.exact_lin.specs.Merges.{CanMerge, KeepsBelow, CanJoin, joined_coefficient, behind, MergesTerm};
-ghost use Rattle.exact_lin.specs.Forms.{Terms, shown, AscendFrom, Covers, terms_at, values_of, coefficient, is_zero, with_term, increased, increased_by, place_in, IsGap, IsTerm, CanAddTerms, CanSumTerms};
+ghost use Rattle.exact_lin.specs.Forms.{Terms, shown, AscendFrom, Covers, terms_at, values_of, coefficient, with_term, increased, increased_by, place_in, IsGap, IsTerm, CanAddTerms, CanSumTerms};
 
+use crate::arithmetic::{add_product, is_zero};
 use crate::faults::{FormFault, NoMemory};
 use crate::ids::Id;
-use crate::scalars::{Scalar, Sign, Wide};
+use crate::scalars::{Scalar, Wide};
 use std::alloc::Global;
 use std::cmp::Ordering;
 
@@ -21,29 +22,20 @@ pub fn sum_terms<V: Id, S: Scalar>(start: S, terms: &[(V, S)], point: &[S]) -> R
     let mut sum = start;
     let mut left = terms;
     while let Some((term, later)) = left.split_first() {
-        sum = sum.add(term.1.mul(point[term.0.number() as usize])?)?;
+        match add_product(sum, term.1, point[term.0.number() as usize]) {
+            Ok(next) => sum = next,
+            Err(wide) => return Err(wide),
+        }
         left = later;
     }
     Ok(sum)
-}
-
-// Whether the scalar is 0; and that it keeps to the limit of its width.
-fn is_zero_scalar<S: Scalar>(c: S) -> bool
-    ensures value { result ≡ is_zero (S.value c) }
-    ensures fits { Fits S.limit (S.value c) }
-{
-    match c.sign() {
-        Sign::Zero => true,
-        Sign::Minus => false,
-        Sign::Plus => false,
-    }
 }
 
 // Puts a term at the end, unless its coefficient is 0.
 fn push_term<V: Id, S: Scalar>(terms: &mut Vec<(V, S)>, id: V, c: S) -> Result<(), NoMemory>
     ensures { OnOk result (shown V.number_of S.value terms.new.items ≡ shown V.number_of S.value terms.old.items ++ with_term (V.number_of id) (S.value c) []) }
 {
-    if !is_zero_scalar(c) {
+    if !is_zero(c) {
         terms.push((id, c))?;
     }
     Ok(())
@@ -224,7 +216,7 @@ fn set_term<V: Id, S: Scalar>(terms: &mut Vec<(V, S)>, place: usize, v: V, c: S)
     requires { place < length terms.old.items }
     ensures { shown V.number_of S.value terms.new.items ≡ take place (shown V.number_of S.value terms.old.items) ++ with_term (V.number_of v) (S.value c) (drop (place + 1) (shown V.number_of S.value terms.old.items)) }
 {
-    if is_zero_scalar(c) {
+    if is_zero(c) {
         terms.remove(place);
     } else {
         terms[place] = (v, c);
@@ -244,7 +236,7 @@ fn insert_term<V: Id, S: Scalar>(
     ensures memory { OnErr result (IsErrOf result FormFault.Memory) }
     ensures err { OnErr result (terms.new.items ≡ terms.old.items) }
 {
-    if is_zero_scalar(c) {
+    if is_zero(c) {
         return Ok(());
     }
     match terms.insert(place, (v, c)) {
