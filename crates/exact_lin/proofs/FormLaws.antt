@@ -2,11 +2,11 @@
 use Rattle.std.proofs.Common.{◌≡◌, ◌≢◌, ℕ, ◌+◌, ◌<◌, ◌≤◌, sym, ◌∙◌, ap, ap₂, subst, refl, arith, [], ◌∷◌, Less, Equal, Greater, Ordering, Bool, true, false, if◌then◌else◌}
 use Rattle.std.specs.Ordering.{nat_cmp, match_ordering}
 use Rattle.rational.specs.Rational.{ℚ, zeroℚ, ◌+ℚ◌, ◌*ℚ◌}
-use Rattle.rational.proofs.Field.{zero_addℚ, zero_mulℚ, add_commℚ, ℚ_ring}
+use Rattle.rational.proofs.Field.{zero_add, zero_mul, add_comm, ℚ_ring}
 use Rattle.rational.proofs.Ring.{law, num, ◌⊕◌, ◌⊗◌, ◌≐◌}
 use Rattle.exact_lin.specs.Forms.{Terms, LinearForm, AscendFrom, Covers, terms_at, form_at, is_zero, with_term, increased, increased_by, plus_constant, plus_term, plus_scaled}
 use Rattle.exact_lin.proofs.Zeros.{is_zero-zero, zero-is_zero}
-use Rattle.exact_lin.proofs.MergeTerms.{ranks_at}
+use Rattle.exact_lin.proofs.Merge.{ranks_at}
 
 -- ---- ids
 
@@ -46,11 +46,11 @@ terms_at-with_term : (v : ℕ) (c : ℚ) (ts : Terms) (x : ℕ → ℚ) → term
 terms_at-with_term v c ts x = go (is_zero c) refl
   where
     none : c ≡ zeroℚ → terms_at ts x ≡ terms_at ts x +ℚ c *ℚ x v
-    none e = sym (ap (λ (q : ℚ). terms_at ts x +ℚ q) (ap (λ (q : ℚ). q *ℚ x v) e ∙ zero_mulℚ (x v)) ∙ add_commℚ (terms_at ts x) zeroℚ ∙ zero_addℚ (terms_at ts x))
+    none e = sym (ap (λ (q : ℚ). terms_at ts x +ℚ q) (ap (λ (q : ℚ). q *ℚ x v) e ∙ zero_mul (x v)) ∙ add_comm (terms_at ts x) zeroℚ ∙ zero_add (terms_at ts x))
 
     go : (b : Bool) → is_zero c ≡ b → terms_at (if b then ts else ((v, c) ∷ ts)) x ≡ terms_at ts x +ℚ c *ℚ x v
     go true e = none (zero-is_zero c e)
-    go false e = add_commℚ (c *ℚ x v) (terms_at ts x)
+    go false e = add_comm (c *ℚ x v) (terms_at ts x)
 
 pub terms_at-increased : (v : ℕ) (c : ℚ) (ts : Terms) (x : ℕ → ℚ) → terms_at (increased ts v c) x ≡ terms_at ts x +ℚ c *ℚ x v
 terms_at-increased v c [] x = terms_at-with_term v c [] x

@@ -9,7 +9,7 @@ use Rattle.rational.specs.Divisors.{gcd-from-is}
 use Rattle.rational.specs.Lowest.{over}
 use Rattle.rational.specs.Rational.{ℚ, whole, zeroℚ, ratio, ◌+ℚ◌, ◌*ℚ◌}
 use Rattle.rational.proofs.Fractions.{ratio-num, ratio-den, den_pos}
-use Rattle.rational.proofs.Field.{add_commℚ, mul_commℚ, zero_addℚ, zero_mulℚ}
+use Rattle.rational.proofs.Field.{add_comm, mul_comm, zero_add, zero_mul}
 use Rattle.exact_lin.specs.Reckoning.{wide_limit, IsFraction, Fits, Within, ProductFits, SumFits, CanAdd, shared_factor}
 use Rattle.exact_lin.proofs.Numbers.{whole-fraction}
 use Rattle.exact_lin.specs.Reckonings.{AreDefined, product_sum}
@@ -67,16 +67,16 @@ pub adds_nothing_left : (limit : ℕ) (sum y a total : ℚ) → Fits limit sum �
 adds_nothing_left limit sum y a total f e t = subst (λ (z : ℚ). AreDefined limit (product_sum sum z a) × (total ≡ sum +ℚ z *ℚ a)) (sym e) (
   (
     by_parts (λ n d. ProductFits limit n d a.num a.den) (zero_left limit a.num a.den (one_below limit sum f) (den_pos a)),
-    (subst (λ (z : ℚ). CanAdd limit sum z) (sym (zero_mulℚ a)) (by_parts (λ n d. SumFits limit sum.num sum.den n d) (sum_zero limit sum.num sum.den f.numerator f.denominator (den_pos sum))), tt),
+    (subst (λ (z : ℚ). CanAdd limit sum z) (sym (zero_mul a)) (by_parts (λ n d. SumFits limit sum.num sum.den n d) (sum_zero limit sum.num sum.den f.numerator f.denominator (den_pos sum))), tt),
   ),
-  t ∙ sym (ap (λ (z : ℚ). sum +ℚ z) (zero_mulℚ a) ∙ add_commℚ sum zeroℚ ∙ zero_addℚ sum),
+  t ∙ sym (ap (λ (z : ℚ). sum +ℚ z) (zero_mul a) ∙ add_comm sum zeroℚ ∙ zero_add sum),
 )
 
 pub adds_nothing_right : (limit : ℕ) (sum y a total : ℚ) → Fits limit sum → a ≡ zeroℚ → total ≡ sum → AreDefined limit (product_sum sum y a) × (total ≡ sum +ℚ y *ℚ a)
 adds_nothing_right limit sum y a total f e t = subst (λ (z : ℚ). AreDefined limit (product_sum sum y z) × (total ≡ sum +ℚ y *ℚ z)) (sym e) (
   (
     by_parts (λ n d. ProductFits limit y.num y.den n d) (zero_right limit y.num y.den (one_below limit sum f) (den_pos y)),
-    (subst (λ (z : ℚ). CanAdd limit sum z) (sym (mul_commℚ y zeroℚ ∙ zero_mulℚ y)) (by_parts (λ n d. SumFits limit sum.num sum.den n d) (sum_zero limit sum.num sum.den f.numerator f.denominator (den_pos sum))), tt),
+    (subst (λ (z : ℚ). CanAdd limit sum z) (sym (mul_comm y zeroℚ ∙ zero_mul y)) (by_parts (λ n d. SumFits limit sum.num sum.den n d) (sum_zero limit sum.num sum.den f.numerator f.denominator (den_pos sum))), tt),
   ),
-  t ∙ sym (ap (λ (z : ℚ). sum +ℚ z) (mul_commℚ y zeroℚ ∙ zero_mulℚ y) ∙ add_commℚ sum zeroℚ ∙ zero_addℚ sum),
+  t ∙ sym (ap (λ (z : ℚ). sum +ℚ z) (mul_comm y zeroℚ ∙ zero_mul y) ∙ add_comm sum zeroℚ ∙ zero_add sum),
 )

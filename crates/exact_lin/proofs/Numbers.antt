@@ -14,9 +14,9 @@ use Rattle.rational.specs.Gcd.{gcd}
 use Rattle.rational.specs.Lowest.{is_lowest, lowest_in, lowest_out, over, abs-over, divided-is_lowest}
 use Rattle.rational.specs.Rational.{ℚ, ratio, whole, zeroℚ, neg_ℚ, inverse, reciprocal, ◌<ℚ◌}
 use Rattle.rational.proofs.Fractions.{den_pos, ratio-parts, equal_ratios}
-use Rattle.rational.proofs.Order.{lt-ratio_in, positive_in}
+use Rattle.rational.proofs.Order.{lt_ratio_in, positive_in}
 use Rattle.exact_lin.specs.Reckoning.{wide_limit, IsFraction, Within}
-use Rattle.exact_lin.proofs.Parts.{Made, made, back, back-is, back-unsigned, back-num, num-is, den-is}
+use Rattle.exact_lin.proofs.Parts.{wide, Made, made, back, back-is, back-unsigned, back-num, num-is, den-is}
 
 one_pos : 0 < 1
 one_pos = omega arith
@@ -25,7 +25,7 @@ one_pos = omega arith
 pub negative_num : (q : ℚ) → q.num <ℤ pos 0 → q <ℚ zeroℚ
 unfolding whole
 negative_num q h = subst (λ (r : ℚ). r <ℚ ratio (pos 0) 1) (ratio-parts q)
-    (lt-ratio_in q.num q.den (pos 0) 1 (den_pos q) one_pos (below_in _ _ (omega (arith, product_is (pos 0) (pos q.den), product_is q.num (pos 1), lt_out _ _ h))))
+    (lt_ratio_in q.num q.den (pos 0) 1 (den_pos q) one_pos (below_in _ _ (omega (arith, product_is (pos 0) (pos q.den), product_is q.num (pos 1), lt_out _ _ h))))
 
 pub zero_num : (q : ℚ) → q.num ≡ pos 0 → q ≡ zeroℚ
 unfolding whole
@@ -169,5 +169,5 @@ module _ (n x : ℤ) (d s g : ℕ) (w : Within wide_limit n) (h : 0 < d) (l : d 
   denominator-is : d / g ≡ d / gcd (nat_abs n) d
   denominator-is = ap (λ (m : ℕ). d / m) factor-is
 
-  pub reduced-made : Made x (d / g) (Unit {0}) (ratio n d)
-  reduced-made = made x _ (d / g) _ _ _ numerator-is denominator-is (divided-fraction n d h w l) (divided-ratio n d h) tt
+  pub reduced-made : Made wide x (d / g) (Unit {0}) (ratio n d)
+  reduced-made = made wide x _ (d / g) _ _ _ numerator-is denominator-is (divided-fraction n d h w l) (divided-ratio n d h) tt

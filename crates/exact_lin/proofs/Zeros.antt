@@ -4,7 +4,7 @@ use Rattle.std.proofs.Math.IntN.{nat_abs}
 use Rattle.std.proofs.Common.{◌≡◌, ◌≢◌, ℕ, zero, suc, true, false, nat_eq, refl, ◌∙◌, ap, subst, arith, ℤ, pos, negsuc}
 use Rattle.rational.specs.Rational.{ℚ, whole, zeroℚ, ◌<ℚ◌}
 use Rattle.rational.proofs.Fractions.{ratio-num}
-use Rattle.rational.proofs.Order.{lt_irreflℚ}
+use Rattle.rational.proofs.Order.{lt_irrefl}
 use Rattle.exact_lin.specs.Reckoning.{wide_limit}
 use Rattle.exact_lin.specs.Forms.{is_zero}
 use Rattle.exact_lin.proofs.Numbers.{zero_num, whole-fraction}
@@ -30,10 +30,10 @@ is_zero-other q n = go q.num (λ e. n (zero_num q e))
     go (negsuc m) n = not_zero m
 
 pub lt-other : (q : ℚ) → q <ℚ zeroℚ → q ≢ zeroℚ
-lt-other q h e = lt_irreflℚ zeroℚ (subst (λ (r : ℚ). r <ℚ zeroℚ) e h)
+lt-other q h e = lt_irrefl zeroℚ (subst (λ (r : ℚ). r <ℚ zeroℚ) e h)
 
 pub gt-other : (q : ℚ) → zeroℚ <ℚ q → q ≢ zeroℚ
-gt-other q h e = lt_irreflℚ zeroℚ (subst (λ (r : ℚ). zeroℚ <ℚ r) e h)
+gt-other q h e = lt_irrefl zeroℚ (subst (λ (r : ℚ). zeroℚ <ℚ r) e h)
 
 pub zero-is_zero : (q : ℚ) → is_zero q ≡ true → q ≡ zeroℚ
 zero-is_zero q e = zero_num q (go q.num e)

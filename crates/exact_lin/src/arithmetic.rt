@@ -4,6 +4,7 @@ ghost use Rattle.std.specs.Prelude.{◌≡◌};
 ghost use Rattle.std.specs.Bool.{MatchBool};
 ghost use Rattle.rational.specs.Rational.{zeroℚ, ◌+ℚ◌, ◌*ℚ◌, ◌<ℚ◌, ◌≤ℚ◌};
 ghost use Rattle.exact_lin.specs.Reckoning.{Fits, Reckons};
+ghost use Rattle.exact_lin.specs.Forms.{is_zero};
 ghost use Rattle.exact_lin.specs.Reckonings.{AreDefined, product_sum};
 
 use crate::scalars::{Scalar, Sign, Wide};
@@ -49,14 +50,16 @@ pub fn is_positive<S: Scalar>(x: S) -> bool
     }
 }
 
-// Whether the number is 0; and that it keeps to the limit of its width.
-fn is_zero<S: Scalar>(x: S) -> bool
+// Whether x is 0; and that it keeps to the limit of its width.
+pub(crate) fn is_zero<S: Scalar>(x: S) -> bool
     ensures value { MatchBool result (S.value x ≡ zeroℚ) (¬ (S.value x ≡ zeroℚ)) }
+    ensures test { result ≡ is_zero (S.value x) }
     ensures fits { Fits S.limit (S.value x) }
 {
     match x.sign() {
         Sign::Zero => true,
-        Sign::Minus | Sign::Plus => false,
+        Sign::Minus => false,
+        Sign::Plus => false,
     }
 }
 

@@ -5,9 +5,9 @@ use Rattle.rational.specs.Rational.{ℚ, ratio, whole, zeroℚ, oneℚ, ◌*ℚ�
 use Rattle.rational.proofs.Ring.{minus, ◌⊗◌, ◌⊖◌, num, ◌≐◌, law, combine}
 use Rattle.rational.proofs.Integers.{ℤ_ring}
 use Rattle.rational.proofs.Fractions.{equal_ratios}
-use Rattle.rational.proofs.Field.{ℚ_ring, mul-ratio, zero_mulℚ}
-use Rattle.rational.proofs.Order.{mul-inverse, whole-positive}
-use Rattle.rational.proofs.Inequalities.{pos-not_zero}
+use Rattle.rational.proofs.Field.{ℚ_ring, mul-ratio, zero_mul}
+use Rattle.rational.proofs.Order.{mul-inverse, whole_positive}
+use Rattle.rational.proofs.Inequalities.{positive_not_zero}
 
 -- a factor that is not 0 comes off both sides
 pub mul-cancel : (a b c : ℚ) → ¬ (a ≡ zeroℚ) → a *ℚ b ≡ a *ℚ c → b ≡ c
@@ -18,7 +18,7 @@ pub inverse-unique : (a b : ℚ) → a *ℚ b ≡ oneℚ → b ≡ inverse a
 inverse-unique a b e = mul-cancel a b (inverse a) not_zero (e ∙ sym (mul-inverse a not_zero))
   where
     not_zero : ¬ (a ≡ zeroℚ)
-    not_zero z = pos-not_zero oneℚ (whole-positive 0) (sym e ∙ ap (λ x. x *ℚ b) z ∙ zero_mulℚ b)
+    not_zero z = positive_not_zero oneℚ (whole_positive 0) (sym e ∙ ap (λ x. x *ℚ b) z ∙ zero_mul b)
 
 pub inverse-inverse : (a : ℚ) → ¬ (a ≡ zeroℚ) → inverse (inverse a) ≡ a
 inverse-inverse a n = sym (inverse-unique (inverse a) a (law ℚ_ring (a ∷ inverse a ∷ []) (λ a i. i ⊗ a ≐ a ⊗ i) refl ∙ mul-inverse a n))
@@ -35,7 +35,7 @@ ratio-is n d h = mul-cancel (whole (pos d)) (ratio n d) (whole n *ℚ inverse (w
   where
     positive : (k : ℕ) → 0 < k → zeroℚ <ℚ whole (pos k)
     positive zero l = absurd (omega arith)
-    positive (suc k) l = whole-positive k
+    positive (suc k) l = whole_positive k
 
     not_zero : ¬ (whole (pos d) ≡ zeroℚ)
-    not_zero = pos-not_zero (whole (pos d)) (positive d h)
+    not_zero = positive_not_zero (whole (pos d)) (positive d h)

@@ -8,11 +8,11 @@ pub mod Solve
 pub mod Order
 pub mod Inequalities
 pub mod Inverses
-pub mod Between
+pub mod Segments
 pub mod Lists
 pub mod Rows
-pub mod Compare
+pub mod Comparisons
 pub mod Coprime
-pub mod Pivot
+pub mod Equations
 pub mod Extremes
 pub mod Decimals

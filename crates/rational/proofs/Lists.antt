@@ -4,8 +4,8 @@ use Rattle.rational.specs.Rational.{ℚ, zeroℚ, ◌+ℚ◌, ◌*ℚ◌, ◌≤
 use Rattle.rational.specs.Lists.{at, sum_list, dot, add_list, scale_list, Nonneg}
 use Rattle.rational.proofs.Ring.{◌⊕◌, ◌⊗◌, num, ◌≼◌, ◌≐◌, law}
 use Rattle.rational.proofs.Field.{ℚ_ring}
-use Rattle.rational.proofs.Order.{ℚ_ordered, mul_leℚ}
-use Rattle.rational.proofs.Inequalities.{le_reflℚ}
+use Rattle.rational.proofs.Order.{ℚ_ordered, mul_nonneg}
+use Rattle.rational.proofs.Inequalities.{le_refl}
 use Rattle.rational.proofs.Solve.{◌⊢◌, linear}
 
 pub sum_list-append : (u v : List ℚ) → sum_list (u ++ v) ≡ sum_list u +ℚ sum_list v
@@ -42,9 +42,9 @@ dot-scale y (a ∷ u) (c ∷ x) =
     ∙ law ℚ_ring (y ∷ a ∷ c ∷ dot u x ∷ []) (λ y a c s. y ⊗ a ⊗ c ⊕ y ⊗ s ≐ y ⊗ (a ⊗ c ⊕ s)) refl
 
 pub dot-nonneg : (u x : List ℚ) → Nonneg u → Nonneg x → zeroℚ ≤ℚ dot u x
-dot-nonneg [] x h k = le_reflℚ zeroℚ
-dot-nonneg (a ∷ u) [] h k = le_reflℚ zeroℚ
-dot-nonneg (a ∷ u) (b ∷ x) h k = linear ℚ_ordered ((a *ℚ b) ∷ dot u x ∷ []) (λ p s. (num 0 ≼ p ∷ num 0 ≼ s ∷ []) ⊢ num 0 ≼ p ⊕ s) (mul_leℚ a b h.0 k.0, (dot-nonneg u x h.1 k.1, tt)) refl
+dot-nonneg [] x h k = le_refl zeroℚ
+dot-nonneg (a ∷ u) [] h k = le_refl zeroℚ
+dot-nonneg (a ∷ u) (b ∷ x) h k = linear ℚ_ordered ((a *ℚ b) ∷ dot u x ∷ []) (λ p s. (num 0 ≼ p ∷ num 0 ≼ s ∷ []) ⊢ num 0 ≼ p ⊕ s) (mul_nonneg a b h.0 k.0, (dot-nonneg u x h.1 k.1, tt)) refl
 
 -- ---- numbers by their places
 pub at-add_list : (u w : List ℚ) (k : ℕ) → at (add_list u w) k ≡ at u k +ℚ at w k
@@ -60,7 +60,7 @@ at-scale_list y (a ∷ u) (suc k) = at-scale_list y u k
 
 -- each number is at least 0 exactly where the number at each place is
 pub Nonneg-at : (u : List ℚ) (k : ℕ) → Nonneg u → zeroℚ ≤ℚ at u k
-Nonneg-at [] k h = le_reflℚ zeroℚ
+Nonneg-at [] k h = le_refl zeroℚ
 Nonneg-at (a ∷ u) zero h = h.0
 Nonneg-at (a ∷ u) (suc k) h = Nonneg-at u k h.1
 

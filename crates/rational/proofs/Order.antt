@@ -43,17 +43,17 @@ right a b c d h k = combine ℤ_ring (c ∷ pos b ∷ pos d ∷ (ratio c d).num 
 dens_pos : (q r : ℚ) → 0 < q.den * r.den
 dens_pos q r = mul-pos (den_pos q) (den_pos r)
 
-pub le-ratio_out : (a : ℤ) (b : ℕ) (c : ℤ) (d : ℕ) → 0 < b → 0 < d → ratio a b ≤ℚ ratio c d → (a *ℤ pos d) ≤ℤ (c *ℤ pos b)
-le-ratio_out a b c d h k l = same_le _ _ _ _ (b * d) ((ratio a b).den * (ratio c d).den) (dens_pos (ratio a b) (ratio c d)) (left a b c d h k) (right a b c d h k) l.le
+pub le_ratio_out : (a : ℤ) (b : ℕ) (c : ℤ) (d : ℕ) → 0 < b → 0 < d → ratio a b ≤ℚ ratio c d → (a *ℤ pos d) ≤ℤ (c *ℤ pos b)
+le_ratio_out a b c d h k l = same_le _ _ _ _ (b * d) ((ratio a b).den * (ratio c d).den) (dens_pos (ratio a b) (ratio c d)) (left a b c d h k) (right a b c d h k) l.le
 
-pub le-ratio_in : (a : ℤ) (b : ℕ) (c : ℤ) (d : ℕ) → 0 < b → 0 < d → (a *ℤ pos d) ≤ℤ (c *ℤ pos b) → ratio a b ≤ℚ ratio c d
-le-ratio_in a b c d h k l = record { le = same_le _ _ _ _ ((ratio a b).den * (ratio c d).den) (b * d) (mul-pos h k) (sym (left a b c d h k)) (sym (right a b c d h k)) l }
+pub le_ratio_in : (a : ℤ) (b : ℕ) (c : ℤ) (d : ℕ) → 0 < b → 0 < d → (a *ℤ pos d) ≤ℤ (c *ℤ pos b) → ratio a b ≤ℚ ratio c d
+le_ratio_in a b c d h k l = record { le = same_le _ _ _ _ ((ratio a b).den * (ratio c d).den) (b * d) (mul-pos h k) (sym (left a b c d h k)) (sym (right a b c d h k)) l }
 
-pub lt-ratio_out : (a : ℤ) (b : ℕ) (c : ℤ) (d : ℕ) → 0 < b → 0 < d → ratio a b <ℚ ratio c d → (a *ℤ pos d) <ℤ (c *ℤ pos b)
-lt-ratio_out a b c d h k l = same_lt _ _ _ _ (b * d) ((ratio a b).den * (ratio c d).den) (mul-pos h k) (left a b c d h k) (right a b c d h k) l.lt
+pub lt_ratio_out : (a : ℤ) (b : ℕ) (c : ℤ) (d : ℕ) → 0 < b → 0 < d → ratio a b <ℚ ratio c d → (a *ℤ pos d) <ℤ (c *ℤ pos b)
+lt_ratio_out a b c d h k l = same_lt _ _ _ _ (b * d) ((ratio a b).den * (ratio c d).den) (mul-pos h k) (left a b c d h k) (right a b c d h k) l.lt
 
-pub lt-ratio_in : (a : ℤ) (b : ℕ) (c : ℤ) (d : ℕ) → 0 < b → 0 < d → (a *ℤ pos d) <ℤ (c *ℤ pos b) → ratio a b <ℚ ratio c d
-lt-ratio_in a b c d h k l = record { lt = same_lt _ _ _ _ ((ratio a b).den * (ratio c d).den) (b * d) (dens_pos (ratio a b) (ratio c d)) (sym (left a b c d h k)) (sym (right a b c d h k)) l }
+pub lt_ratio_in : (a : ℤ) (b : ℕ) (c : ℤ) (d : ℕ) → 0 < b → 0 < d → (a *ℤ pos d) <ℤ (c *ℤ pos b) → ratio a b <ℚ ratio c d
+lt_ratio_in a b c d h k l = record { lt = same_lt _ _ _ _ ((ratio a b).den * (ratio c d).den) (b * d) (dens_pos (ratio a b) (ratio c d)) (sym (left a b c d h k)) (sym (right a b c d h k)) l }
 
 -- ---- with 0
 one_pos : 0 < 1
@@ -61,19 +61,19 @@ one_pos = omega arith
 
 pub nonneg_in : (a : ℤ) (b : ℕ) → 0 < b → pos 0 ≤ℤ a → whole (pos 0) ≤ℚ ratio a b
 unfolding whole
-nonneg_in a b h l = le-ratio_in (pos 0) 1 a b one_pos h (at_most_in _ _ (omega (arith, product_is (pos 0) (pos b), product_is a (pos 1), le_out _ _ l)))
+nonneg_in a b h l = le_ratio_in (pos 0) 1 a b one_pos h (at_most_in _ _ (omega (arith, product_is (pos 0) (pos b), product_is a (pos 1), le_out _ _ l)))
 
 pub nonneg_out : (a : ℤ) (b : ℕ) → 0 < b → whole (pos 0) ≤ℚ ratio a b → pos 0 ≤ℤ a
 unfolding whole
-nonneg_out a b h l = at_most_in _ _ (omega (arith, product_is (pos 0) (pos b), product_is a (pos 1), le_out _ _ (le-ratio_out (pos 0) 1 a b one_pos h l)))
+nonneg_out a b h l = at_most_in _ _ (omega (arith, product_is (pos 0) (pos b), product_is a (pos 1), le_out _ _ (le_ratio_out (pos 0) 1 a b one_pos h l)))
 
 pub positive_in : (a : ℤ) (b : ℕ) → 0 < b → pos 0 <ℤ a → whole (pos 0) <ℚ ratio a b
 unfolding whole
-positive_in a b h l = lt-ratio_in (pos 0) 1 a b one_pos h (below_in _ _ (omega (arith, product_is (pos 0) (pos b), product_is a (pos 1), lt_out _ _ l)))
+positive_in a b h l = lt_ratio_in (pos 0) 1 a b one_pos h (below_in _ _ (omega (arith, product_is (pos 0) (pos b), product_is a (pos 1), lt_out _ _ l)))
 
 pub positive_out : (a : ℤ) (b : ℕ) → 0 < b → whole (pos 0) <ℚ ratio a b → pos 0 <ℤ a
 unfolding whole
-positive_out a b h l = below_in _ _ (omega (arith, product_is (pos 0) (pos b), product_is a (pos 1), lt_out _ _ (lt-ratio_out (pos 0) 1 a b one_pos h l)))
+positive_out a b h l = below_in _ _ (omega (arith, product_is (pos 0) (pos b), product_is a (pos 1), lt_out _ _ (lt_ratio_out (pos 0) 1 a b one_pos h l)))
 
 -- r - q, by the parts of q and r
 difference-is : (q r : ℚ) → r +ℚ neg_ℚ q ≡ ratio (r.num *ℤ pos q.den +ℤ neg_ℤ (q.num *ℤ pos r.den)) (r.den * q.den)
@@ -83,26 +83,26 @@ difference-is q r =
     ∙ add-ratio r.num r.den (neg_ℤ q.num) q.den (den_pos r) (den_pos q)
     ∙ ap (λ z. ratio z (r.den * q.den)) (law ℤ_ring (q.num ∷ pos q.den ∷ r.num ∷ pos r.den ∷ []) (λ qn qd rn rd. rn ⊗ qd ⊕ minus qn ⊗ rd ≐ rn ⊗ qd ⊖ qn ⊗ rd) refl)
 
-pub le_subℚ : (q r : ℚ) → q ≤ℚ r → whole (pos 0) ≤ℚ (r +ℚ neg_ℚ q)
-le_subℚ q r h = subst (λ z. whole (pos 0) ≤ℚ z) (sym (difference-is q r)) (nonneg_in _ _ (dens_pos r q) (shift _ _ h.le))
+pub le_sub : (q r : ℚ) → q ≤ℚ r → whole (pos 0) ≤ℚ (r +ℚ neg_ℚ q)
+le_sub q r h = subst (λ z. whole (pos 0) ≤ℚ z) (sym (difference-is q r)) (nonneg_in _ _ (dens_pos r q) (shift _ _ h.le))
   where
     shift : (x y : ℤ) → x ≤ℤ y → pos 0 ≤ℤ (y +ℤ neg_ℤ x)
     shift x y l = omega (arith, ints)
 
-pub sub_leℚ : (q r : ℚ) → whole (pos 0) ≤ℚ (r +ℚ neg_ℚ q) → q ≤ℚ r
-sub_leℚ q r h = record { le = shift _ _ (nonneg_out _ _ (dens_pos r q) (subst (λ z. whole (pos 0) ≤ℚ z) (difference-is q r) h)) }
+pub sub_le : (q r : ℚ) → whole (pos 0) ≤ℚ (r +ℚ neg_ℚ q) → q ≤ℚ r
+sub_le q r h = record { le = shift _ _ (nonneg_out _ _ (dens_pos r q) (subst (λ z. whole (pos 0) ≤ℚ z) (difference-is q r) h)) }
   where
     shift : (x y : ℤ) → pos 0 ≤ℤ (y +ℤ neg_ℤ x) → x ≤ℤ y
     shift x y l = omega (arith, ints)
 
-pub lt_subℚ : (q r : ℚ) → q <ℚ r → whole (pos 0) <ℚ (r +ℚ neg_ℚ q)
-lt_subℚ q r h = subst (λ z. whole (pos 0) <ℚ z) (sym (difference-is q r)) (positive_in _ _ (dens_pos r q) (shift _ _ h.lt))
+pub lt_sub : (q r : ℚ) → q <ℚ r → whole (pos 0) <ℚ (r +ℚ neg_ℚ q)
+lt_sub q r h = subst (λ z. whole (pos 0) <ℚ z) (sym (difference-is q r)) (positive_in _ _ (dens_pos r q) (shift _ _ h.lt))
   where
     shift : (x y : ℤ) → x <ℤ y → pos 0 <ℤ (y +ℤ neg_ℤ x)
     shift x y l = omega (arith, ints)
 
-pub sub_ltℚ : (q r : ℚ) → whole (pos 0) <ℚ (r +ℚ neg_ℚ q) → q <ℚ r
-sub_ltℚ q r h = record { lt = shift _ _ (positive_out _ _ (dens_pos r q) (subst (λ z. whole (pos 0) <ℚ z) (difference-is q r) h)) }
+pub sub_lt : (q r : ℚ) → whole (pos 0) <ℚ (r +ℚ neg_ℚ q) → q <ℚ r
+sub_lt q r h = record { lt = shift _ _ (positive_out _ _ (dens_pos r q) (subst (λ z. whole (pos 0) <ℚ z) (difference-is q r) h)) }
   where
     shift : (x y : ℤ) → pos 0 <ℤ (y +ℤ neg_ℤ x) → x <ℤ y
     shift x y l = omega (arith, ints)
@@ -135,38 +135,38 @@ nonneg_num q h = nonneg_out q.num q.den (den_pos q) (subst (λ z. whole (pos 0) 
 pub positive_num : (q : ℚ) → whole (pos 0) <ℚ q → pos 0 <ℤ q.num
 positive_num q h = positive_out q.num q.den (den_pos q) (subst (λ z. whole (pos 0) <ℚ z) (sym (ratio-parts q)) h)
 
-pub add_leℚ : (q r : ℚ) → whole (pos 0) ≤ℚ q → whole (pos 0) ≤ℚ r → whole (pos 0) ≤ℚ (q +ℚ r)
+pub add_nonneg : (q r : ℚ) → whole (pos 0) ≤ℚ q → whole (pos 0) ≤ℚ r → whole (pos 0) ≤ℚ (q +ℚ r)
 unfolding ◌+ℚ◌
-add_leℚ q r h k = nonneg_in _ _ (dens_pos q r) (nonneg-add _ _ (nonneg-mul _ _ (nonneg_num q h) (pos-nonneg r.den)) (nonneg-mul _ _ (nonneg_num r k) (pos-nonneg q.den)))
+add_nonneg q r h k = nonneg_in _ _ (dens_pos q r) (nonneg-add _ _ (nonneg-mul _ _ (nonneg_num q h) (pos-nonneg r.den)) (nonneg-mul _ _ (nonneg_num r k) (pos-nonneg q.den)))
 
-pub add_ltℚ : (q r : ℚ) → whole (pos 0) <ℚ q → whole (pos 0) ≤ℚ r → whole (pos 0) <ℚ (q +ℚ r)
+pub add_positive : (q r : ℚ) → whole (pos 0) <ℚ q → whole (pos 0) ≤ℚ r → whole (pos 0) <ℚ (q +ℚ r)
 unfolding ◌+ℚ◌
-add_ltℚ q r h k = positive_in _ _ (dens_pos q r) (positive-add _ _ (positive-mul _ _ (positive_num q h) (pos-positive r.den (den_pos r))) (nonneg-mul _ _ (nonneg_num r k) (pos-nonneg q.den)))
+add_positive q r h k = positive_in _ _ (dens_pos q r) (positive-add _ _ (positive-mul _ _ (positive_num q h) (pos-positive r.den (den_pos r))) (nonneg-mul _ _ (nonneg_num r k) (pos-nonneg q.den)))
 
-pub mul_leℚ : (q r : ℚ) → whole (pos 0) ≤ℚ q → whole (pos 0) ≤ℚ r → whole (pos 0) ≤ℚ (q *ℚ r)
+pub mul_nonneg : (q r : ℚ) → whole (pos 0) ≤ℚ q → whole (pos 0) ≤ℚ r → whole (pos 0) ≤ℚ (q *ℚ r)
 unfolding ◌*ℚ◌
-mul_leℚ q r h k = nonneg_in _ _ (dens_pos q r) (nonneg-mul _ _ (nonneg_num q h) (nonneg_num r k))
+mul_nonneg q r h k = nonneg_in _ _ (dens_pos q r) (nonneg-mul _ _ (nonneg_num q h) (nonneg_num r k))
 
-pub mul_ltℚ : (q r : ℚ) → whole (pos 0) <ℚ q → whole (pos 0) <ℚ r → whole (pos 0) <ℚ (q *ℚ r)
+pub mul_positive : (q r : ℚ) → whole (pos 0) <ℚ q → whole (pos 0) <ℚ r → whole (pos 0) <ℚ (q *ℚ r)
 unfolding ◌*ℚ◌
-mul_ltℚ q r h k = positive_in _ _ (dens_pos q r) (positive-mul _ _ (positive_num q h) (positive_num r k))
+mul_positive q r h k = positive_in _ _ (dens_pos q r) (positive-mul _ _ (positive_num q h) (positive_num r k))
 
-pub lt_leℚ : (q r : ℚ) → q <ℚ r → q ≤ℚ r
-lt_leℚ q r h = record { le = weaker _ _ h.lt }
+pub lt_le : (q r : ℚ) → q <ℚ r → q ≤ℚ r
+lt_le q r h = record { le = weaker _ _ h.lt }
   where
     weaker : (x y : ℤ) → x <ℤ y → x ≤ℤ y
     weaker x y l = omega (arith, ints)
 
-pub whole-nonneg : (n : ℕ) → whole (pos 0) ≤ℚ whole (pos n)
+pub whole_nonneg : (n : ℕ) → whole (pos 0) ≤ℚ whole (pos n)
 unfolding whole
-whole-nonneg n = nonneg_in (pos n) 1 one_pos (pos-nonneg n)
+whole_nonneg n = nonneg_in (pos n) 1 one_pos (pos-nonneg n)
 
-pub whole-positive : (n : ℕ) → whole (pos 0) <ℚ whole (pos (suc n))
+pub whole_positive : (n : ℕ) → whole (pos 0) <ℚ whole (pos (suc n))
 unfolding whole
-whole-positive n = positive_in (pos (suc n)) 1 one_pos (pos-positive (suc n) (omega arith))
+whole_positive n = positive_in (pos (suc n)) 1 one_pos (pos-positive (suc n) (omega arith))
 
-pub lt_irreflℚ : (q : ℚ) → q <ℚ q → ⊥
-lt_irreflℚ q h = not_below _ h.lt
+pub lt_irrefl : (q : ℚ) → q <ℚ q → ⊥
+lt_irrefl q h = not_below _ h.lt
   where
     not_below : (x : ℤ) → x <ℤ x → ⊥
     not_below x l = omega (arith, ints)
@@ -175,8 +175,8 @@ lt_irreflℚ q h = not_below _ h.lt
 pub le_or_gt : (q r : ℚ) → (q ≤ℚ r) ⊎ (r <ℚ q)
 le_or_gt q r = by_lt_z (r.num *ℤ pos q.den) (q.num *ℤ pos r.den) (λ l. inr record { lt = l }) (λ l. inl record { le = l })
 
-pub le_antisymmℚ : (q r : ℚ) → q ≤ℚ r → r ≤ℚ q → q ≡ r
-le_antisymmℚ q r h k = equal_from_cross q r (both_ways _ _ h.le k.le)
+pub le_antisymm : (q r : ℚ) → q ≤ℚ r → r ≤ℚ q → q ≡ r
+le_antisymm q r h k = equal_from_cross q r (both_ways _ _ h.le k.le)
   where
     both_ways : (x y : ℤ) → x ≤ℤ y → y ≤ℤ x → x ≡ y
     both_ways x y l m = omega (arith, ints)
@@ -186,18 +186,18 @@ abbrev pub ℚ_ordered : Ordered
   r = ℚ_ring;
   le = ◌≤ℚ◌;
   lt = ◌<ℚ◌;
-  le_sub = le_subℚ;
-  lt_sub = lt_subℚ;
-  add_le = add_leℚ;
-  add_lt = add_ltℚ;
-  mul_le = mul_leℚ;
-  mul_lt = mul_ltℚ;
-  of_le = whole-nonneg;
-  of_lt = whole-positive;
-  lt_le = lt_leℚ;
-  lt_irrefl = lt_irreflℚ;
+  le_sub = le_sub;
+  lt_sub = lt_sub;
+  add_le = add_nonneg;
+  add_lt = add_positive;
+  mul_le = mul_nonneg;
+  mul_lt = mul_positive;
+  of_le = whole_nonneg;
+  of_lt = whole_positive;
+  lt_le = lt_le;
+  lt_irrefl = lt_irrefl;
   le_or_gt = le_or_gt;
-  antisym = le_antisymmℚ;
+  antisym = le_antisymm;
 }
 
 -- ---- the inverse

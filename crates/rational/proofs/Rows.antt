@@ -6,18 +6,18 @@ use Rattle.rational.specs.Lists.{dot, add_list, scale_list, Nonneg}
 use Rattle.rational.specs.Rows.{Row, row_at, sum_rows, Meets}
 use Rattle.rational.proofs.Ring.{◌⊕◌, ◌⊗◌, ◌⊖◌, num, ◌≼◌, ◌≺◌, ◌≐◌}
 use Rattle.rational.proofs.Order.{ℚ_ordered}
-use Rattle.rational.proofs.Inequalities.{mul-le, le_reflℚ}
+use Rattle.rational.proofs.Inequalities.{mul_le, le_refl}
 use Rattle.rational.proofs.Lists.{dot-add, dot-scale, dot-nonneg, length-scale_list, length-add_list_within}
 use Rattle.rational.proofs.Solve.{◌⊢◌, linear, contradiction}
 
 -- a sum of rows with factors of at least 0 is a row that each solution meets
 pub sum_rows-met : (ys : List ℚ) (rs : List Row) (x : List ℚ) → Nonneg ys → Meets x rs → dot (sum_rows ys rs).factors x ≤ℚ (sum_rows ys rs).bound
-sum_rows-met [] rs x h k = le_reflℚ zeroℚ
-sum_rows-met (y ∷ ys) [] x h k = le_reflℚ zeroℚ
+sum_rows-met [] rs x h k = le_refl zeroℚ
+sum_rows-met (y ∷ ys) [] x h k = le_refl zeroℚ
 sum_rows-met (y ∷ ys) (r ∷ rs) x h k = linear ℚ_ordered
     (y ∷ dot r.factors x ∷ r.bound ∷ dot (sum_rows ys rs).factors x ∷ (sum_rows ys rs).bound ∷ dot (add_list (scale_list y r.factors) (sum_rows ys rs).factors) x ∷ [])
     (λ y row bound rest rest_bound all. (y ⊗ row ≼ y ⊗ bound ∷ rest ≼ rest_bound ∷ all ≐ y ⊗ row ⊕ rest ∷ []) ⊢ all ≼ y ⊗ bound ⊕ rest_bound)
-    (mul-le y (dot r.factors x) r.bound h.0 k.0, (sum_rows-met ys rs x h.1 k.1, (dot-add (scale_list y r.factors) (sum_rows ys rs).factors x ∙ ap (λ z. z +ℚ dot (sum_rows ys rs).factors x) (dot-scale y r.factors x), tt))) refl
+    (mul_le y (dot r.factors x) r.bound h.0 k.0, (sum_rows-met ys rs x h.1 k.1, (dot-add (scale_list y r.factors) (sum_rows ys rs).factors x ∙ ap (λ z. z +ℚ dot (sum_rows ys rs).factors x) (dot-scale y r.factors x), tt))) refl
 
 -- rows whose sum has no factor below 0 and a bound below 0 have no solution of numbers from 0 on
 pub farkas : (ys : List ℚ) (rs : List Row) → Nonneg ys → Nonneg (sum_rows ys rs).factors → (sum_rows ys rs).bound <ℚ zeroℚ

@@ -1,4 +1,4 @@
--- `gcd` is the greatest common divisor; numbers in lowest terms.
+-- Private: proofs that `gcd` is the greatest common divisor, and of what has nothing in common.
 use Rattle.std.proofs.Common.{◌≡◌, ℕ, zero, suc, ◌*◌, ◌/◌, ◌%◌, ◌<◌, ◌≤◌, refl, sym, subst, arith}
 use Rattle.std.proofs.lemmas.Nat.Gcd.{IsGcd-from_zero, IsGcd-from_mod, IsGcd-swap, same_from_IsGcd}
 use Rattle.std.specs.Int.{IsGcd}

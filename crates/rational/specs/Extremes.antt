@@ -1,4 +1,4 @@
--- The lesser and the greater of two numbers.
+-- Believed: the lesser and the greater of two numbers.
 use Rattle.std.specs.Ordering.{match_ordering}
 use Rattle.rational.specs.Rational.{ℚ, cmp_ℚ}
 

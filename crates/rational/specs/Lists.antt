@@ -1,4 +1,5 @@
--- Believed: lists of rational numbers: sums of products, sums and multiples of lists. Of two ragged lists the longer one's rest counts as zeros.
+-- Believed: lists of rational numbers: sums of products, sums and multiples of lists.
+-- Of two lists of different lengths the rest of the longer one is added to zeros, and times zeros.
 use Rattle.std.specs.Prelude.{ℕ, List, [], ◌∷◌, slice_index_or}
 use Rattle.rational.specs.Rational.{ℚ, zeroℚ, ◌+ℚ◌, ◌*ℚ◌, ◌≤ℚ◌}
 

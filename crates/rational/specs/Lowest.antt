@@ -1,4 +1,4 @@
--- A fraction divided by the greatest common divisor is in lowest terms.
+-- Believed: fractions in lowest terms, and the quotient that brings a fraction to them.
 use Rattle.std.proofs.Common.{◌≡◌, ℕ, zero, suc, ◌*◌, ◌/◌, ◌<◌, refl, sym, ap, subst, arith, Bool, true, false, ◌&&◌, T, ltb, eqb, lt→ltb, ltb→lt, eqb→eq, eq-eqb}
 use Rattle.std.proofs.Math.IntN.{ℤ, pos, negsuc, ◌*ℤ◌, neg_ℤ, nat_abs}
 use Rattle.std.specs.Int.{IsGcd}

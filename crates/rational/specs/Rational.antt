@@ -1,4 +1,5 @@
--- The rational numbers, exact and without limit. Each is a fraction in lowest terms, so equal numbers are the same value.
+-- Believed: the rational numbers, exact and without limit, their sums, products and order.
+-- Each is a fraction in lowest terms, so equal numbers are the same value.
 use Rattle.std.specs.Ordering.{int_cmp}
 use Rattle.std.specs.declared.cmp.Ordering.{Ordering}
 use Rattle.std.specs.Prelude.{ℕ, zero, suc, ◌*◌, ◌/◌, T, ℤ, pos, negsuc, ◌+ℤ◌, ◌*ℤ◌, neg_ℤ, ◌≤ℤ◌, ◌<ℤ◌}

@@ -1,4 +1,4 @@
--- Linear functions of one number, as of the time.
+-- Believed: linear functions of one number, as of the time, and where they are at least 0.
 use Rattle.std.specs.Prelude.{pos}
 use Rattle.rational.specs.Rational.{ℚ, zeroℚ, ratio, ◌+ℚ◌, ◌*ℚ◌, ◌≤ℚ◌, ◌<ℚ◌}
 

@@ -2,7 +2,8 @@
 
 ghost use Rattle.rational.specs.Laws.{EndsDecideBetween, BetweenDecidesEnds};
 
-/// A linear function is at least 0 between two ends exactly where it is so at both.
+/// A linear function that is at least 0 at two ends is so everywhere between them; and where it is so at every number
+/// strictly between two different ends, it is so at both.
 pub fn ends_decide()
     ensures between { EndsDecideBetween }
     ensures ends { BetweenDecidesEnds }

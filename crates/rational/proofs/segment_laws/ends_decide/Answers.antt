@@ -1,4 +1,4 @@
-use Rattle.rational.proofs.Between.{between, ends_from_between}
+use Rattle.rational.proofs.Segments.{between, ends_from_between}
 use Rattle.rational.proofs.segment_laws.ends_decide.Goals as goal
 
 pub returns-clause-between : goal.returns-clause-between
