@@ -4,8 +4,8 @@ use Rattle.rational.specs.Rational.{ℚ, zeroℚ, ◌+ℚ◌, ◌*ℚ◌, ◌-�
 use Rattle.rational.specs.Segment.{along}
 use Rattle.rational.proofs.Ring.{minus, ◌⊕◌, ◌⊗◌, ◌⊖◌, num, ◌≼◌}
 use Rattle.rational.proofs.Solve.{◌⊢◌, linear}
-use Rattle.rational.proofs.Order.{ℚ_ordered, lt_leℚ}
-use Rattle.rational.proofs.Between.{between, ends_from_between}
+use Rattle.rational.proofs.Order.{ℚ_ordered, lt_le}
+use Rattle.rational.proofs.Segments.{between, ends_from_between}
 use Rattle.first_path.specs.declared.model.Side.{Side}
 use Rattle.first_path.specs.declared.model.Side.TheVariants.{AtMost, AtLeast}
 use Rattle.first_path.specs.Meaning.{is_on_side}
@@ -51,7 +51,7 @@ segment side limit v s lo hi l = (inside, ends)
   where
     inside : OnSideAtEnds side limit v s lo hi → OnSideBetween side limit v s lo hi
     inside e t h k = margin-in side limit v s lo t (between (at_zero side limit v s lo) (margin_slope side s) lo hi t
-        (margin-out side limit v s lo lo (start-out side limit v s lo e.0)) (margin-out side limit v s lo hi e.1) (lt_leℚ lo t h) (lt_leℚ t hi k))
+        (margin-out side limit v s lo lo (start-out side limit v s lo e.0)) (margin-out side limit v s lo hi e.1) (lt_le lo t h) (lt_le t hi k))
 
     ends : OnSideBetween side limit v s lo hi → OnSideAtEnds side limit v s lo hi
     ends f = let both = ends_from_between (at_zero side limit v s lo) (margin_slope side s) lo hi l (λ t h k. margin-out side limit v s lo t (f t h k)) in

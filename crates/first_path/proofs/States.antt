@@ -5,9 +5,9 @@ use Rattle.rational.specs.Extremes.{min_ℚ, max_ℚ}
 use Rattle.rational.proofs.Ring.{◌⊕◌, ◌⊗◌, ◌⊖◌, num, ◌≼◌, ◌≺◌, ◌≐◌, law}
 use Rattle.rational.proofs.Solve.{◌⊢◌, linear}
 use Rattle.rational.proofs.Field.{ℚ_ring}
-use Rattle.rational.proofs.Order.{ℚ_ordered, lt_leℚ}
-use Rattle.rational.proofs.Inequalities.{le_reflℚ, lt_not_leℚ}
-use Rattle.rational.proofs.Extremes.{min-left, min-le_right, max-left, max-right}
+use Rattle.rational.proofs.Order.{ℚ_ordered, lt_le}
+use Rattle.rational.proofs.Inequalities.{le_refl, lt_not_le}
+use Rattle.rational.proofs.Extremes.{min_left, min_le_right, max_left, max_right}
 use Rattle.first_path.specs.declared.model.Bound.{Bound}
 use Rattle.first_path.specs.declared.model.Task.{Task}
 use Rattle.first_path.specs.declared.model.PlanLine.{PlanLine}
@@ -24,14 +24,14 @@ start-before_end l h = linear ℚ_ordered (l.start ∷ l.duration ∷ []) (λ s 
 
 run_time-running : (l : PlanLine) (t : ℚ) → l.start ≤ℚ t → t ≤ℚ end_of l → run_time l t ≡ t -ℚ l.start
 unfolding run_time
-run_time-running l t h k = ap (λ z. max_ℚ zeroℚ (z -ℚ l.start)) (min-left t (end_of l) k)
-    ∙ max-right zeroℚ (t -ℚ l.start) (linear ℚ_ordered (l.start ∷ t ∷ []) (λ s t. (s ≼ t ∷ []) ⊢ num 0 ≼ t ⊖ s) (h, tt) refl)
+run_time-running l t h k = ap (λ z. max_ℚ zeroℚ (z -ℚ l.start)) (min_left t (end_of l) k)
+    ∙ max_right zeroℚ (t -ℚ l.start) (linear ℚ_ordered (l.start ∷ t ∷ []) (λ s t. (s ≼ t ∷ []) ⊢ num 0 ≼ t ⊖ s) (h, tt) refl)
 
 -- an action whose end does not come after its start never runs
 run_time-never : (l : PlanLine) (t : ℚ) → l.duration ≤ℚ zeroℚ → run_time l t ≡ zeroℚ
 unfolding run_time
-run_time-never l t h = max-left zeroℚ (min_ℚ t (end_of l) -ℚ l.start)
-    (linear ℚ_ordered (l.start ∷ l.duration ∷ min_ℚ t (end_of l) ∷ []) (λ s d m. (m ≼ s ⊕ d ∷ d ≼ num 0 ∷ []) ⊢ m ⊖ s ≼ num 0) (min-le_right t (end_of l), (h, tt)) refl)
+run_time-never l t h = max_left zeroℚ (min_ℚ t (end_of l) -ℚ l.start)
+    (linear ℚ_ordered (l.start ∷ l.duration ∷ min_ℚ t (end_of l) ∷ []) (λ s d m. (m ≼ s ⊕ d ∷ d ≼ num 0 ∷ []) ⊢ m ⊖ s ≼ num 0) (min_le_right t (end_of l), (h, tt)) refl)
 
 -- while the action runs, the fluent has moved since its start
 pub value_at-running : (task : Task) (l : PlanLine) (t : ℚ) → l.start ≤ℚ t → t ≤ℚ end_of l → value_at task l t ≡ moved task.initial (slope task) l.start t
@@ -44,25 +44,25 @@ value_at-never task l t h = ap (λ z. task.initial +ℚ slope task *ℚ z) (run_
     ∙ law ℚ_ring (task.initial ∷ slope task ∷ []) (λ v s. v ⊕ s ⊗ num 0 ≐ v) refl
 
 pub value_at-start : (task : Task) (l : PlanLine) → zeroℚ <ℚ l.duration → value_at task l l.start ≡ task.initial
-value_at-start task l h = value_at-running task l l.start (le_reflℚ l.start) (lt_leℚ l.start (end_of l) (start-before_end l h))
+value_at-start task l h = value_at-running task l l.start (le_refl l.start) (lt_le l.start (end_of l) (start-before_end l h))
     ∙ law ℚ_ring (task.initial ∷ slope task ∷ l.start ∷ []) (λ v s t. v ⊕ s ⊗ (t ⊖ t) ≐ v) refl
 
 pub value_at-end : (task : Task) (l : PlanLine) → zeroℚ <ℚ l.duration → value_at task l (end_of l) ≡ moved task.initial (slope task) l.start (end_of l)
-value_at-end task l h = value_at-running task l (end_of l) (lt_leℚ l.start (end_of l) (start-before_end l h)) (le_reflℚ (end_of l))
+value_at-end task l h = value_at-running task l (end_of l) (lt_le l.start (end_of l) (start-before_end l h)) (le_refl (end_of l))
 
 pub last_time-end : (l : PlanLine) → zeroℚ <ℚ l.duration → last_time l ≡ end_of l
 unfolding last_time
-last_time-end l h = max-right l.start (end_of l) (lt_leℚ l.start (end_of l) (start-before_end l h))
+last_time-end l h = max_right l.start (end_of l) (lt_le l.start (end_of l) (start-before_end l h))
 
 pub last_time-start : (l : PlanLine) → l.duration ≤ℚ zeroℚ → last_time l ≡ l.start
 unfolding last_time
-last_time-start l h = max-left l.start (end_of l) (linear ℚ_ordered (l.start ∷ l.duration ∷ []) (λ s d. (d ≼ num 0 ∷ []) ⊢ s ⊕ d ≼ s) (h, tt) refl)
+last_time-start l h = max_left l.start (end_of l) (linear ℚ_ordered (l.start ∷ l.duration ∷ []) (λ s d. (d ≼ num 0 ∷ []) ⊢ s ⊕ d ≼ s) (h, tt) refl)
 
 -- the condition over all holds at every instant exactly where it holds at both ends of the action
 pub over_all-at_ends : (task : Task) (l : PlanLine) → zeroℚ <ℚ l.duration → (Meets task.over_all task.initial × Meets task.over_all (moved task.initial (slope task) l.start (end_of l))) ↔ HoldsOverAll task l
 over_all-at_ends task l h = (
-  (λ e t a b. subst (λ z. Meets task.over_all z) (sym (value_at-running task l t (lt_leℚ l.start t a) (lt_leℚ t (end_of l) b))) (both.0 e t a b)),
-  (λ f. both.1 (λ t a b. subst (λ z. Meets task.over_all z) (value_at-running task l t (lt_leℚ l.start t a) (lt_leℚ t (end_of l) b)) (f t a b))),
+  (λ e t a b. subst (λ z. Meets task.over_all z) (sym (value_at-running task l t (lt_le l.start t a) (lt_le t (end_of l) b))) (both.0 e t a b)),
+  (λ f. both.1 (λ t a b. subst (λ z. Meets task.over_all z) (value_at-running task l t (lt_le l.start t a) (lt_le t (end_of l) b)) (f t a b))),
 )
   where
     both : OnSideAtEnds task.over_all.side task.over_all.limit task.initial (slope task) l.start (end_of l) ↔ OnSideBetween task.over_all.side task.over_all.limit task.initial (slope task) l.start (end_of l)
@@ -101,4 +101,4 @@ never-last task l h = sym (value_at-never task l (last_time l) h)
 
 -- an action that never runs has no condition to be read
 pub never-runs : (l : PlanLine) → l.duration ≤ℚ zeroℚ → zeroℚ <ℚ l.duration → ⊥
-never-runs l h k = lt_not_leℚ zeroℚ l.duration k h
+never-runs l h k = lt_not_le zeroℚ l.duration k h

@@ -3,7 +3,7 @@ use Rattle.std.proofs.Common.{◌≡◌, ◌↔◌, IsTrue, refl, sym, subst, ar
 use Rattle.rational.specs.Rational.{ℚ, ratio, zeroℚ, ◌<ℚ◌}
 use Rattle.std.proofs.lemmas.Int.{ints}
 use Rattle.rational.proofs.Order.{positive_in}
-use Rattle.rational.proofs.Inequalities.{lt_le_transℚ}
+use Rattle.rational.proofs.Inequalities.{lt_le_trans}
 use Rattle.first_path.specs.declared.model.Task.{Task}
 use Rattle.first_path.specs.declared.model.PlanLine.{PlanLine}
 use Rattle.first_path.specs.declared.model.Rules.{Rules}
@@ -24,7 +24,7 @@ stays rules task l c h a b = (a, subst (λ (z : ℚ). IsInTime rules z) h.ends b
 
 -- a plan whose duration fits has an action that runs
 pub condition_told : (rules : Rules) (task : Task) (l : PlanLine) (c : Course) → zeroℚ <ℚ rules.epsilon → FitsDuration rules task l → Tells task l c → IsTrue c.over_all ↔ HoldsOverAll task l
-condition_told rules task l c e f h = h.condition (lt_le_transℚ zeroℚ rules.epsilon l.duration e f.0)
+condition_told rules task l c e f h = h.condition (lt_le_trans zeroℚ rules.epsilon l.duration e f.0)
 
 -- a thousandth is above 0
 pub thousandth-positive : (q : ℚ) → q ≡ ratio (pos 1) 1000 → zeroℚ <ℚ q
