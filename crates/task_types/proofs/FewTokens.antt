@@ -1,10 +1,10 @@
 -- A well made task has fewer than 2^32 tokens.
-use Rattle.std.proofs.Common.{◌≡◌, refl, ap, ℕ, suc, ◌+◌, ◌*◌, ◌^◌, ◌<◌, ◌≤◌, Bool, true, false, cond, List, [], ◌∷◌, ◌++◌, length, map, arith, length-append}
+use Rattle.std.proofs.Common.{◌≡◌, ℕ, suc, ◌+◌, ◌*◌, ◌^◌, ◌<◌, ◌≤◌, Bool, true, false, cond, List, [], ◌∷◌, ◌++◌, length, map, arith, length-append}
 use Rattle.std.specs.Prelude.{nat_le, is_some}
 use Rattle.std.specs.List.{list_all, filter, flat_map, enumerate_from}
 use Rattle.std.proofs.lemmas.Bool.Decides.{nat_tests}
 use Rattle.std.proofs.lemmas.List.{length-map}
-use Rattle.std.proofs.lemmas.List.FromFn.{length-range_with_len}
+use Rattle.std.proofs.lemmas.List.FromFn.{length-range_with_len, length-enumerate_from}
 use Rattle.task_types.specs.declared.actions.Action.{Action}
 use Rattle.task_types.specs.declared.parts.TaskParts.{TaskParts}
 use Rattle.task_types.specs.declared.tokens.Token.TheVariants as token
@@ -21,10 +21,6 @@ filter-shorter p (x ∷ xs) = go (p x) (filter-shorter p xs)
     go : (b : Bool) → length (filter p xs) ≤ length xs → length (cond b (x ∷ filter p xs) (filter p xs)) ≤ suc (length xs)
     go true h = omega arith
     go false h = omega arith
-
-length-enumerate : {X : Type 0} (n : ℕ) (xs : List X) → length (enumerate_from n xs) ≡ length xs
-length-enumerate n [] = refl
-length-enumerate n (x ∷ xs) = ap suc (length-enumerate (n + 1) xs)
 
 le_out : (m n : ℕ) → nat_le m n ≡ true → m ≤ n
 le_out m n h = grind (arith, nat_tests)
@@ -66,5 +62,5 @@ few_tokens task w = omega (
   length-map task.soft soft_facts,
   length-map (filter (λ a. is_some a.1.end) (enumerate_from 0 task.actions)) (λ a. token.Action a.0),
   filter-shorter (λ a. is_some a.1.end) (enumerate_from 0 task.actions),
-  length-enumerate 0 task.actions,
+  length-enumerate_from 0 task.actions,
 )

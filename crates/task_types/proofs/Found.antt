@@ -1,6 +1,7 @@
 -- What an index finds for a token are the snap actions that touch it.
-use Rattle.std.proofs.Common.{◌≡◌, refl, sym, ap, ◌∙◌, ℕ, Bool, true, false, ◌||◌, ◌==◌, List, [], ◌∷◌, ◌++◌}
+use Rattle.std.proofs.Common.{◌≡◌, refl, ap, ◌∙◌, ℕ, ◌||◌, ◌==◌, List, [], ◌∷◌}
 use Rattle.std.specs.List.{flat_map}
+use Rattle.std.proofs.lemmas.List.Folds.{list_any-append}
 use Rattle.task_types.specs.declared.parts.TaskParts.{TaskParts}
 use Rattle.task_types.specs.declared.touches.relations.Relation.{Relation}
 use Rattle.task_types.specs.declared.touches.relations.Relation.TheVariants.{ChangedFacts, WrittenFluents, BentFluents}
@@ -13,17 +14,9 @@ use Rattle.task_types.specs.Sets.{is_in, meet}
 use Rattle.task_types.specs.Plan.{snap_of}
 use Rattle.task_types.specs.Related.{related, Tells, IsIndex, AreTouching, found, row_of}
 
-or_assoc : (a b c : Bool) → ((a || b) || c) ≡ (a || (b || c))
-or_assoc true b c = refl
-or_assoc false b c = refl
-
-is_in-append : (x : ℕ) (xs ys : List ℕ) → is_in x (xs ++ ys) ≡ (is_in x xs || is_in x ys)
-is_in-append x [] ys = refl
-is_in-append x (y ∷ zs) ys = ap (λ b. (y == x) || b) (is_in-append x zs ys) ∙ sym (or_assoc (y == x) (is_in x zs) (is_in x ys))
-
 rows_tell : (task : TaskParts) (r : Relation) (rows : List (List ℕ)) → Tells task r rows → (ns : List ℕ) (s : ℕ) → is_in s (flat_map (row_of rows) ns) ≡ meet ns (related task r (snap_of task s))
 rows_tell task r rows h [] s = refl
-rows_tell task r rows h (n ∷ ns) s = is_in-append s (row_of rows n) (flat_map (row_of rows) ns) ∙ ap (λ b. b || is_in s (flat_map (row_of rows) ns)) (h n s) ∙ ap (λ b. is_in n (related task r (snap_of task s)) || b) (rows_tell task r rows h ns s)
+rows_tell task r rows h (n ∷ ns) s = list_any-append (λ y. y == s) (row_of rows n) (flat_map (row_of rows) ns) ∙ ap (λ b. b || is_in s (flat_map (row_of rows) ns)) (h n s) ∙ ap (λ b. is_in n (related task r (snap_of task s)) || b) (rows_tell task r rows h ns s)
 
 pub found-touching : (task : TaskParts) (index : Index) → IsIndex task index → (touch : Touch) (t : Token) → AreTouching task touch t (found index touch t)
 found-touching task index h Look (token.Fact f) s = h.looked_facts f s

@@ -1,6 +1,7 @@
 -- Entries put at the ends of rows, once each.
 use Rattle.std.proofs.Common.{◌≡◌, refl, sym, ap, subst, ◌∙◌, ℕ, suc, ◌-◌, ◌<◌, ◌≤◌, Bool, true, false, ◌&&◌, ◌||◌, ◌==◌, List, [], ◌∷◌, ◌++◌, length, Some, None, arith}
 use Rattle.std.specs.Prelude.{slice_get, slice_set, slice_index_or, if◌then◌else◌}
+use Rattle.std.proofs.lemmas.Bool.{eq-eqb, eqb-true}
 use Rattle.std.proofs.lemmas.Bool.Decides.{nat_tests}
 use Rattle.std.proofs.lemmas.List.{length-set, set-get_or, get_or-set_same, get_or-set_other}
 use Rattle.std.proofs.lemmas.List.Folds.{list_any-append}
@@ -28,9 +29,6 @@ is_last-append n t (x ∷ z ∷ zs) y = is_last-append n t (z ∷ zs) y
 
 -- ---- rows with entries put at their ends
 
-same_itself : (n : ℕ) → (n == n) ≡ true
-same_itself n = grind (arith, nat_tests)
-
 same_touch-itself : (t : Touch) → same_touch t t ≡ true
 same_touch-itself Look = refl
 same_touch-itself Mark = refl
@@ -41,10 +39,7 @@ put_again n t row = go (is_last n t row) refl
   where
     go : (b : Bool) → is_last n t row ≡ b → put_last n t (if b then row else (row ++ (n, t) ∷ [])) ≡ (if b then row else (row ++ (n, t) ∷ []))
     go true e = rw e refl
-    go false e = rw (is_last-append n t row (n, t), same_itself n, same_touch-itself t) refl
-
-is_same : (i s : ℕ) → (i == s) ≡ true → i ≡ s
-is_same i s e = grind (arith, nat_tests)
+    go false e = rw (is_last-append n t row (n, t), eq-eqb n n refl, same_touch-itself t) refl
 
 is_other : (i s : ℕ) → (i == s) ≡ false → s ≡ i → ⊥
 is_other i s e h = grind (arith, nat_tests)
@@ -71,7 +66,7 @@ module _ (rows : List (List (ℕ × Touch))) (n : ℕ) (t : Touch) (i : ℕ) whe
   put_one = record { long = length-set rows i (put_last n t (slice_index_or rows i [])); each = λ s h. by_place s h (i == s) refl }
     where
       by_place : (s : ℕ) → s < length rows → (b : Bool) → (i == s) ≡ b → slice_index_or (slice_set rows i (put_last n t (slice_index_or rows i []))) s [] ≡ (if (i == s) || false then put_last n t (slice_index_or rows s []) else slice_index_or rows s [])
-      by_place s h true e = ap (λ k. slice_index_or (slice_set rows k (put_last n t (slice_index_or rows k []))) s []) (is_same i s e) ∙ get_or-set_same rows s (put_last n t (slice_index_or rows s [])) [] h
+      by_place s h true e = ap (λ k. slice_index_or (slice_set rows k (put_last n t (slice_index_or rows k []))) s []) (eqb-true i s e) ∙ get_or-set_same rows s (put_last n t (slice_index_or rows s [])) [] h
           ∙ sym (ap (λ b. if b || false then put_last n t (slice_index_or rows s []) else slice_index_or rows s []) e)
       by_place s h false e = get_or-set_other rows i s (put_last n t (slice_index_or rows i [])) [] (is_other i s e) ∙ sym (ap (λ b. if b || false then put_last n t (slice_index_or rows s []) else slice_index_or rows s []) e)
 

@@ -1,8 +1,9 @@
 -- A table that leads back, made one list at a time.
-use Rattle.std.proofs.Common.{◌≡◌, refl, sym, ap, ◌∙◌, ℕ, zero, suc, ◌+◌, ◌<◌, ◌≤◌, Bool, true, false, ◌&&◌, ◌||◌, ◌==◌, List, [], ◌∷◌, ◌++◌, length, map, take, arith}
+use Rattle.std.proofs.Common.{◌≡◌, refl, sym, ap, ◌∙◌, ℕ, zero, suc, ◌<◌, ◌≤◌, Bool, true, false, ◌&&◌, ◌||◌, ◌==◌, List, [], ◌∷◌, ◌++◌, length, map, take, arith}
 use Rattle.std.specs.Prelude.{slice_index_or, slice_set}
 use Rattle.std.proofs.lemmas.List.{length-set, get_or-set_same, get_or-set_other}
 use Rattle.std.proofs.lemmas.List.Folds.{list_any-append}
+use Rattle.std.proofs.lemmas.Bool.{eqb-true}
 use Rattle.std.proofs.lemmas.Bool.Decides.{nat_tests}
 use Rattle.task_types.specs.Sets.{is_in}
 use Rattle.task_types.specs.Related.{IsPut, LeadsBack}
@@ -59,7 +60,7 @@ module _ (put : ℕ) where
     where
       by_place : (n s : ℕ) → n < length rows → (b : Bool) → (row == n) ≡ b
           → is_in s (slice_index_or (slice_set rows row (slice_index_or rows row [] ++ put ∷ [])) n []) ≡ (is_in s (slice_index_or rows n []) || ((put == s) && ((row == n) || false)))
-      by_place n s h true e = ap (λ k. is_in s (slice_index_or (slice_set rows k (slice_index_or rows k [] ++ put ∷ [])) n [])) (same_out row n e)
+      by_place n s h true e = ap (λ k. is_in s (slice_index_or (slice_set rows k (slice_index_or rows k [] ++ put ∷ [])) n [])) (eqb-true row n e)
           ∙ ap (is_in s) (get_or-set_same rows n (slice_index_or rows n [] ++ put ∷ []) [] h)
           ∙ list_any-append (λ y. y == s) (slice_index_or rows n []) (put ∷ [])
           ∙ ap (λ b. is_in s (slice_index_or rows n []) || b) (either (put == s)) ∙ ap (λ b. is_in s (slice_index_or rows n []) || ((put == s) && (b || false))) (sym e)
@@ -67,9 +68,6 @@ module _ (put : ℕ) where
           either : (b : Bool) → (b || false) ≡ (b && (true || false))
           either true = refl
           either false = refl
-
-          same_out : (m n : ℕ) → (m == n) ≡ true → m ≡ n
-          same_out m n e = grind (arith, nat_tests)
       by_place n s h false e = ap (is_in s) (get_or-set_other rows row n (slice_index_or rows row [] ++ put ∷ []) [] (other_out row n e))
           ∙ and_nothing n s (slice_index_or rows n []) ∙ ap (λ b. is_in s (slice_index_or rows n []) || ((put == s) && (b || false))) (sym e)
         where
@@ -89,8 +87,7 @@ module _ (put : ℕ) where
       together false true c d = refl
       together false false c d = refl
 
-pub length-map-take : {X Y : Type 0} (f : X → Y) (xs : List X) (i : ℕ) → i ≤ length xs → length (map f (take i xs)) ≡ i
-length-map-take f [] zero h = refl
-length-map-take f [] (suc i) h = absurd (omega arith)
+pub length-map-take : {X Y : Type 0} (f : X → Y) (xs : List X) (i : ℕ) → i < length xs → length (map f (take i xs)) ≡ i
+length-map-take f [] i h = absurd (omega arith)
 length-map-take f (y ∷ ys) zero h = refl
 length-map-take f (y ∷ ys) (suc i) h = ap suc (length-map-take f ys i (omega arith))

@@ -1,22 +1,16 @@
 -- Numbered lists that grow by one place.
-use Rattle.std.proofs.Common.{◌≡◌, refl, sym, ap, ◌∙◌, ℕ, zero, suc, ◌+◌, ◌<◌, Bool, true, false, cond, List, [], ◌∷◌, ◌++◌, length, map, take, arith}
+use Rattle.std.proofs.Common.{◌≡◌, refl, sym, ap, ◌∙◌, ℕ, zero, suc, ◌+◌, ◌<◌, Bool, true, false, cond, List, [], ◌∷◌, ◌++◌, length, map, take, arith, append_assoc}
 use Rattle.std.specs.Prelude.{slice_index_or, if◌then◌else◌}
 use Rattle.std.specs.List.{filter, flat_map, range_with_len, enumerate_from}
-use Rattle.std.proofs.lemmas.List.{append-nil, map-append, take_more}
+use Rattle.std.proofs.lemmas.List.{append-nil, map-append, map-id, take_more}
+use Rattle.std.proofs.lemmas.List.FromFn.{map-range_with_len_more}
 use Rattle.std.proofs.lemmas.List.Concat.{flat_map-append}
 use Rattle.std.proofs.lemmas.List.Elements.{filter-append}
 use Rattle.task_types.specs.Sets.{numbers, is_in}
 use Rattle.task_types.specs.Related.{IsFlags}
 
-range-more : (a i : ℕ) → range_with_len a (i + 1) ≡ range_with_len a i ++ (a + i) ∷ []
-range-more a zero = let e : a + 0 ≡ a = omega arith in rw e refl
-range-more a (suc i) =
-    let s : suc i + 1 ≡ suc (i + 1) = omega arith in
-    let t : a + 1 + i ≡ a + suc i = omega arith in
-    rw s (ap (λ l. a ∷ l) (range-more (a + 1) i ∙ ap (λ k. range_with_len (a + 1) i ++ k ∷ []) t))
-
 pub numbers-more : (i : ℕ) → numbers (i + 1) ≡ numbers i ++ i ∷ []
-numbers-more i = let e : 0 + i ≡ i = omega arith in range-more 0 i ∙ ap (λ k. numbers i ++ k ∷ []) e
+numbers-more i = sym (map-id (numbers (i + 1))) ∙ map-range_with_len_more (λ k. k) 0 i i (omega arith) ∙ ap (λ l. l ++ i ∷ []) (map-id (numbers i))
 
 module _ {X : Type 0} where
   enumerate_from-more : (a : ℕ) (xs : List X) (i : ℕ) (x : X) → i < length xs → x ≡ slice_index_or xs i x → enumerate_from a (take (i + 1) xs) ≡ enumerate_from a (take i xs) ++ (a + i, x) ∷ []
@@ -45,7 +39,7 @@ map-filter-one f p x = go (p x)
     go true = refl
     go false = refl
 
-map-filter-append : {X Y : Type 0} (f : X → Y) (p : X → Bool) (xs ys : List X) → map f (filter p (xs ++ ys)) ≡ map f (filter p xs) ++ map f (filter p ys)
+pub map-filter-append : {X Y : Type 0} (f : X → Y) (p : X → Bool) (xs ys : List X) → map f (filter p (xs ++ ys)) ≡ map f (filter p xs) ++ map f (filter p ys)
 map-filter-append f p xs ys = ap (map f) (filter-append p xs ys) ∙ map-append f (filter p xs) (filter p ys)
 
 pub map-filter-enumerate-more : {X Y : Type 0} (f : ℕ × X → Y) (p : ℕ × X → Bool) (xs : List X) (i : ℕ) (x : X) → i < length xs → x ≡ slice_index_or xs i x
@@ -65,9 +59,14 @@ range-below p q a (suc n) h = rw (h a (omega arith), range-below p q (a + 1) n (
 pub filter-numbers-below : (p q : ℕ → Bool) (n : ℕ) → ((k : ℕ) → k < n → p k ≡ q k) → filter p (numbers n) ≡ filter q (numbers n)
 filter-numbers-below p q n h = range-below p q 0 n (λ k l. h k (omega arith))
 
--- two ways to choose from two lists together
-pub map-filter-both : {X Y : Type 0} (f : X → Y) (p : X → Bool) (xs ys : List X) → map f (filter p (xs ++ ys)) ≡ map f (filter p xs) ++ map f (filter p ys)
-map-filter-both = map-filter-append
+-- six lists put at the end of one after the other, the fourth and fifth of which make up one
+pub six_put : {X : Type 0} (out first second third fourth fifth last a b c d e f both : List X) → first ≡ out ++ a → second ≡ first ++ b → third ≡ second ++ c → fourth ≡ third ++ d → fifth ≡ fourth ++ e → last ≡ fifth ++ f
+    → both ≡ d ++ e → last ≡ out ++ (a ++ b ++ c ++ both ++ f)
+six_put out first second third fourth fifth last a b c d e f both h1 h2 h3 h4 h5 h6 h = rw (h6, h5, h4, h3, h2, h1, h) (simp append_assoc)
+
+-- four lists put at the end of one after the other
+pub four_put : {X : Type 0} (out first second third last a b c d : List X) → first ≡ out ++ a → second ≡ first ++ b → third ≡ second ++ c → last ≡ third ++ d → last ≡ out ++ (a ++ b ++ c ++ d)
+four_put out first second third last a b c d h1 h2 h3 h4 = rw (h4, h3, h2, h1) (simp append_assoc)
 
 -- choosing by flags is choosing by the list
 pub chosen_by_flags : (flags : List Bool) (count : ℕ) (chosen : List ℕ) → IsFlags flags count chosen → filter (λ f. slice_index_or flags f false) (numbers (length flags)) ≡ filter (λ f. is_in f chosen) (numbers count)

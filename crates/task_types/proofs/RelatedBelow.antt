@@ -5,6 +5,8 @@ use Rattle.std.specs.List.{list_all, filter, flat_map}
 use Rattle.std.proofs.lemmas.Bool.Decides.{nat_tests}
 use native.Mathlib.Decide.{dec_lt}
 use Rattle.exact_lin.specs.Forms.{LinearForm}
+use Rattle.std.proofs.lemmas.List.{get_or_past}
+use Rattle.std.proofs.lemmas.List.Folds.{list_all-append}
 use Rattle.task_types.specs.declared.actions.Action.{Action}
 use Rattle.task_types.specs.declared.actions.Bound.{Bound}
 use Rattle.task_types.specs.declared.actions.Snap.{Snap}
@@ -26,9 +28,11 @@ use Rattle.task_types.proofs.Assigning.{all_read, snap_of_fits}
 abbrev pub Below : ℕ → List ℕ → Type 0
 Below n xs = list_all (λ x. nat_lt x n) xs ≡ true
 
+pub all_append : {Z : Type 0} (p : Z → Bool) (xs ys : List Z) → list_all p xs ≡ true → list_all p ys ≡ true → list_all p (xs ++ ys) ≡ true
+all_append p xs ys h k = list_all-append p xs ys ∙ and_in (list_all p xs) (list_all p ys) h k
+
 below_append : (n : ℕ) (xs ys : List ℕ) → Below n xs → Below n ys → Below n (xs ++ ys)
-below_append n [] ys h k = k
-below_append n (x ∷ xs) ys h k = and_in (nat_lt x n) (list_all (λ x. nat_lt x n) (xs ++ ys)) (and_left (nat_lt x n) (list_all (λ x. nat_lt x n) xs) h) (below_append n xs ys (and_right (nat_lt x n) (list_all (λ x. nat_lt x n) xs) h) k)
+below_append n xs ys h k = all_append (λ x. nat_lt x n) xs ys h k
 
 below_flat : {Z : Type 0} (n : ℕ) (p : Z → Bool) (f : Z → List ℕ) → ((z : Z) → p z ≡ true → Below n (f z)) → (zs : List Z) → list_all p zs ≡ true → Below n (flat_map f zs)
 below_flat n p f g [] h = refl
@@ -45,10 +49,6 @@ all_filter p q (z ∷ zs) h = go (q z) (all_filter p q zs (and_right (p z) (list
 all_weaker : {Z : Type 0} (p q : Z → Bool) → ((z : Z) → p z ≡ true → q z ≡ true) → (zs : List Z) → list_all p zs ≡ true → list_all q zs ≡ true
 all_weaker p q f [] h = refl
 all_weaker p q f (z ∷ zs) h = and_in (q z) (list_all q zs) (f z (and_left (p z) (list_all p zs) h)) (all_weaker p q f zs (and_right (p z) (list_all p zs) h))
-
-all_append : {Z : Type 0} (p : Z → Bool) (xs ys : List Z) → list_all p xs ≡ true → list_all p ys ≡ true → list_all p (xs ++ ys) ≡ true
-all_append p [] ys h k = k
-all_append p (x ∷ xs) ys h k = and_in (p x) (list_all p (xs ++ ys)) (and_left (p x) (list_all p xs) h) (all_append p xs ys (and_right (p x) (list_all p xs) h) k)
 
 below_of : (n : ℕ) (xs : List ℕ) → are_below n xs ≡ true → Below n xs
 below_of n xs h = and_right (is_short xs) (list_all (λ x. nat_lt x n) xs) h
@@ -162,11 +162,6 @@ none_at_or_above n count (x ∷ xs) h k = rw (differs x n count (and_left (nat_l
     differs : (x n count : ℕ) → nat_lt x count ≡ true → count ≤ n → (x == n) ≡ false
     differs x n count l m = grind (arith, nat_tests)
 
-beyond : {X : Type 0} (xs : List X) (n : ℕ) (d : X) → length xs ≤ n → slice_index_or xs n d ≡ d
-beyond [] n d h = refl
-beyond (x ∷ xs) zero d h = absurd (omega arith)
-beyond (x ∷ xs) (suc n) d h = beyond xs n d (omega arith)
-
 mapped_at : {X Y : Type 0} (f : X → Y) (xs : List X) (k : ℕ) (d : X) (e : Y) → f d ≡ e → slice_index_or (map f xs) k e ≡ f (slice_index_or xs k d)
 mapped_at f [] k d e h = sym h
 mapped_at f (x ∷ xs) zero d e h = refl
@@ -190,5 +185,5 @@ table-tells task r rows w b n s = ⊎_elim inside outside (split (dec_lt n (rela
     inside h = b.each n s h ∙ ap (is_in n) (mapped_at (related task r) task.snaps s no_snap [] (no_snap-related task r))
 
     outside : related_count task r ≤ n → is_in s (slice_index_or rows n []) ≡ is_in n (related task r (snap_of task s))
-    outside h = ap (is_in s) (beyond rows n [] (omega (arith, b.long)))
+    outside h = ap (is_in s) (get_or_past rows n [] (omega (arith, b.long)))
         ∙ sym (none_at_or_above n (related_count task r) (related task r (snap_of task s)) h (related_below task w r (snap_of task s) (snap_of_fits task (and_right (is_short task.snaps) (list_all (snap_fits task) task.snaps) w.snaps) s)))

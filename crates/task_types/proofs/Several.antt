@@ -1,14 +1,12 @@
 -- Two different numbers stand in a list exactly where one differs from the first.
-use Rattle.std.proofs.Common.{◌≡◌, refl, sym, ap, subst, ◌∙◌, ℕ, zero, suc, ◌+◌, ◌<◌, ◌≤◌, Bool, true, false, ◌||◌, ◌==◌, List, [], ◌∷◌, length, map, take, arith}
+use Rattle.std.proofs.Common.{◌≡◌, refl, sym, ap, subst, ◌∙◌, ℕ, ◌<◌, ◌≤◌, Bool, true, false, ◌||◌, ◌==◌, List, [], ◌∷◌, length, map, take, arith}
 use Rattle.std.specs.Prelude.{not, slice_index_or}
 use Rattle.std.specs.List.{list_any}
+use Rattle.std.proofs.lemmas.Bool.{eq-eqb}
 use Rattle.std.proofs.lemmas.Bool.Decides.{nat_tests}
 use Rattle.std.proofs.lemmas.List.{take_all}
 use Rattle.std.proofs.lemmas.List.Folds.{list_any_at}
 use Rattle.task_types.specs.Sets.{are_several}
-
-same_itself : (n : ℕ) → (n == n) ≡ true
-same_itself n = grind (arith, nat_tests)
 
 same_out : (m n : ℕ) → not (m == n) ≡ false → m ≡ n
 same_out m n e = grind (arith, nat_tests)
@@ -29,13 +27,13 @@ pub several-same : (x : ℕ) (ys : List ℕ) → list_any (λ y. not (y == x)) y
 several-same x ys e = fails_at_all x (λ z. list_any (λ y. not (y == z)) (x ∷ ys)) here (x ∷ ys) here
   where
     here : list_any (λ y. not (y == x)) (x ∷ ys) ≡ false
-    here = rw (same_itself x) e
+    here = rw (eq-eqb x x refl) e
 
 pub several-differs : (x : ℕ) (ys : List ℕ) → list_any (λ y. not (y == x)) ys ≡ true → are_several (x ∷ ys) ≡ true
 several-differs x ys e = ap (λ b. b || list_any (λ z. list_any (λ y. not (y == z)) (x ∷ ys)) ys) here
   where
     here : list_any (λ y. not (y == x)) (x ∷ ys) ≡ true
-    here = rw (same_itself x) e
+    here = rw (eq-eqb x x refl) e
 
 -- ---- the numbers of some ids
 

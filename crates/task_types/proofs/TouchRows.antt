@@ -13,19 +13,16 @@ use Rattle.task_types.specs.declared.tokens.Touch.TheVariants.{Look, Mark, Bend}
 use Rattle.task_types.specs.Plan.{snap_of, no_snap}
 use Rattle.task_types.specs.Touch.{touches_on, touches_of, tokens, looks, marks, bends}
 use Rattle.task_types.specs.Related.{IsIndex, IsPutInAll, HaveTouches, is_last, same_touch, put_last, put_where, found, touches_on_first}
-use Rattle.task_types.proofs.Everyone.{and_left, and_right, and_in}
+use Rattle.task_types.proofs.Everyone.{and_left, and_right}
 use Rattle.task_types.proofs.Found.{found-touching}
 use Rattle.task_types.proofs.LastEntries.{is_last-append}
 use Rattle.task_types.proofs.Places.{flat_map-enumerate-more}
+use Rattle.task_types.proofs.RelatedBelow.{all_append}
 
 -- ---- entries of earlier tokens
 
 lt_in : (m n : ℕ) → m < n → nat_lt m n ≡ true
 lt_in m n h = grind (arith, nat_tests)
-
-all_append : {X : Type 0} (p : X → Bool) (xs ys : List X) → list_all p xs ≡ true → list_all p ys ≡ true → list_all p (xs ++ ys) ≡ true
-all_append p [] ys h k = k
-all_append p (x ∷ xs) ys h k = and_in (p x) (list_all p (xs ++ ys)) (and_left (p x) (list_all p xs) h) (all_append p xs ys (and_right (p x) (list_all p xs) h) k)
 
 abbrev Earlier : ℕ → List (ℕ × Touch) → Type 0
 Earlier k row = list_all (λ e. nat_lt e.0 k) row ≡ true

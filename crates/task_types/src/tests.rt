@@ -35,6 +35,12 @@ fn both<T: Drop>(alloc: Global, item: T, other: T) -> Result<Items<T>, NoMemory>
     Ok(items)
 }
 
+fn text(alloc: Global, bytes: &[u8]) -> Result<Items<u8>, NoMemory>
+    ensures { IfOk result (λ items. items ≡ bytes.now) }
+{
+    Ok(Items::from_slice(alloc, bytes)?)
+}
+
 // ---- parts of tasks
 
 fn schema(alloc: Global, name: &[u8], durative: bool) -> Result<Schema, NoMemory>
@@ -291,7 +297,7 @@ fn gate_facts(alloc: Global) -> Result<Items<Fact>, NoMemory>
 fn gate_actions(alloc: Global) -> Result<Items<Action>, FormFault>
     ensures { IfOk result (λ actions. actions ≡ gate.actions) }
 {
-    let name = Items::from_slice(alloc, b"pass")?;
+    let name = text(alloc, b"pass")?;
     let bounds = exactly(alloc, 4)?;
     let open = asks(alloc, FactId::of(0))?;
     let pass = durative(alloc, name, SnapId::of(0), SnapId::of(1), bounds, open);
@@ -307,7 +313,8 @@ fn gate_passes(alloc: Global) -> Result<Items<Snap>, NoMemory>
 }
 
 fn gate_moments(alloc: Global) -> Result<Items<Snap>, NoMemory>
-    ensures { IfOk result (λ snaps. snaps ≡ at_moment_of (makes_of 0) ∷ at_moment_of (ends_of 0) ∷ []) }
+    ensures { IfOk result
+        (λ snaps. snaps ≡ at_moment_of (makes_of 0) ∷ at_moment_of (ends_of 0) ∷ []) }
 {
     let opens = at_moment(alloc, makes(alloc, FactId::of(0))?);
     both(
@@ -370,7 +377,8 @@ fn with_level(
     number: i32,
     coefficient: i32,
 ) -> Result<Form<FluentId, Fraction>, FormFault>
-    ensures { IfOk result (λ form. form ≡ plus_term (linear (whole number) []) 0 (whole coefficient)) }
+    ensures { IfOk result
+        (λ form. form ≡ plus_term (linear (whole number) []) 0 (whole coefficient)) }
 {
     let mut form = constant(alloc, number)?;
     form.add_term(FluentId::of(0), Fraction::of_int(coefficient))?;
@@ -378,7 +386,9 @@ fn with_level(
 }
 
 fn asks_level(alloc: Global, number: i32, coefficient: i32) -> Result<Condition, FormFault>
-    ensures { IfOk result (λ condition. condition ≡ asks_of (plus_term (linear (whole number) []) 0 (whole coefficient) ∷ [])) }
+    ensures { IfOk result
+        (λ condition. condition ≡ asks_of (plus_term (linear (whole number) []) 0 (whole
+        coefficient) ∷ [])) }
 {
     Ok(Condition {
         literals: Items::new(alloc),
@@ -393,7 +403,8 @@ fn tank_action(
     over_all: Condition,
 ) -> Result<Action, FormFault>
     requires { start < 3 }
-    ensures { IfOk result (λ action. action ≡ durative_of name start (start + 1) (exactly_of (n 5)) over_all) }
+    ensures { IfOk result
+        (λ action. action ≡ durative_of name start (start + 1) (exactly_of (n 5)) over_all) }
 {
     let bounds = exactly(alloc, 5)?;
     Ok(durative(
@@ -410,18 +421,15 @@ fn tank_actions(alloc: Global) -> Result<Items<Action>, FormFault>
     ensures { IfOk result (λ actions. actions ≡ (tank (n 0)).actions) }
 {
     let level_fits = asks_level(alloc, 10, -1)?;
-    let fill = tank_action(alloc, Items::from_slice(alloc, b"fill")?, 0, level_fits)?;
-    let leak = tank_action(
-        alloc,
-        Items::from_slice(alloc, b"leak")?,
-        2,
-        always_true(alloc),
-    )?;
+    let fill = tank_action(alloc, text(alloc, b"fill")?, 0, level_fits)?;
+    let leak = tank_action(alloc, text(alloc, b"leak")?, 2, always_true(alloc))?;
     Ok(both(alloc, fill, leak)?)
 }
 
 fn tank_pair(alloc: Global, action: u32, rate: i32) -> Result<Items<Snap>, NoMemory>
-    ensures { IfOk result (λ snaps. snaps ≡ at_start_of action ((0, whole rate) ∷ []) ∷ at_end_of action no_effect ∷ []) }
+    ensures { IfOk result
+        (λ snaps. snaps ≡ at_start_of action ((0, whole rate) ∷ []) ∷ at_end_of action
+        no_effect ∷ []) }
 {
     let rates = one(alloc, (FluentId::of(0), Fraction::of_int(rate)))?;
     let start = at_start(alloc, ActionId::of(action), rates);

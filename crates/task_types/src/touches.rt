@@ -1,4 +1,5 @@
-//! How each snap action touches the tokens of a task: the tokens in their order, an index that leads from them back to the snap actions, and a row of touches for each snap action.
+//! How each snap action touches the tokens of a task: the tokens in their order, an index that leads back to the snap
+//! actions, and a row of touches for each of them.
 
 ghost use Rattle.std.specs.Prelude.{◌≡◌, map, IfOk};
 ghost use Rattle.task_types.specs.Touch.{touches_of};

@@ -53,7 +53,8 @@ fn put_snap(
     snap: &Snap,
     place: u32,
 ) -> Result<(), NoMemory>
-    ensures { OnOk result (IsPut rows.old.items rows.new.items (related parts.now relation snap.now) place) }
+    ensures { OnOk result
+        (IsPut rows.old.items rows.new.items (related parts.now relation snap.now) place) }
 {
     let numbers = related_numbers(alloc, parts, relation, snap)?;
     put_in_rows(rows, numbers.as_slice(), place)?;
@@ -106,17 +107,50 @@ fn table_of(
     Ok(Items::from_vec(rows))
 }
 
+// The tables of two relations.
+fn two_tables(
+    alloc: Global,
+    parts: &TaskParts,
+    one: Relation,
+    other: Relation,
+) -> Result<(Items<Items<u32>>, Items<Items<u32>>), NoMemory>
+    requires { IsWellMade parts.now }
+    ensures { IfOk result
+        (λ tables. Tells parts.now one tables.0 × Tells parts.now other tables.1) }
+{
+    let table = table_of(alloc, parts, one)?;
+    Ok((table, table_of(alloc, parts, other)?))
+}
+
 /// The tables of a task.
 pub fn index_of(alloc: Global, parts: &TaskParts) -> Result<Index, NoMemory>
     requires { IsWellMade parts.now }
     ensures { IfOk result (λ index. IsIndex parts.now index) }
 {
+    let (looked_facts, changed_facts) = two_tables(
+        alloc,
+        parts,
+        Relation::LookedFacts,
+        Relation::ChangedFacts,
+    )?;
+    let (looked_fluents, written_fluents) = two_tables(
+        alloc,
+        parts,
+        Relation::LookedFluents,
+        Relation::WrittenFluents,
+    )?;
+    let (bent_fluents, own_actions) = two_tables(
+        alloc,
+        parts,
+        Relation::BentFluents,
+        Relation::OwnAction,
+    )?;
     Ok(Index {
-        looked_facts: table_of(alloc, parts, Relation::LookedFacts)?,
-        changed_facts: table_of(alloc, parts, Relation::ChangedFacts)?,
-        looked_fluents: table_of(alloc, parts, Relation::LookedFluents)?,
-        written_fluents: table_of(alloc, parts, Relation::WrittenFluents)?,
-        bent_fluents: table_of(alloc, parts, Relation::BentFluents)?,
-        own_actions: table_of(alloc, parts, Relation::OwnAction)?,
+        looked_facts,
+        changed_facts,
+        looked_fluents,
+        written_fluents,
+        bent_fluents,
+        own_actions,
     })
 }

@@ -40,7 +40,9 @@ fn is_read(kind: SnapKind, bound: &Bound) -> bool
 
 // Puts the fluents of the bounds that are read at a kind of step at the end.
 fn push_read_bounds(out: &mut Items<u32>, kind: SnapKind, bounds: &[Bound]) -> Result<(), NoMemory>
-    ensures { OnOk result (out.new ≡ out.old ++ flat_map (λ b. form_fluents b.form) (filter (is_read_at kind) bounds.now)) }
+    ensures { OnOk result
+        (out.new ≡ out.old
+        ++ flat_map (λ b. form_fluents b.form) (filter (is_read_at kind) bounds.now)) }
 {
     for bound in bounds {
         if is_read(kind, bound) {
@@ -62,7 +64,9 @@ fn durative_action(snap: &Snap) -> Option<ActionId>
 
 // The action of a number, if there is one.
 fn action_at(parts: &TaskParts, id: ActionId) -> Option<&Action>
-    ensures { MatchOption result (action_of parts.now id ≡ no_action) (λ action. action.now ≡ action_of parts.now id) }
+    ensures { MatchOption result
+        (action_of parts.now id ≡ no_action)
+        (λ action. action.now ≡ action_of parts.now id) }
 {
     match parts.actions.get(id.number() as usize) {
         Some(action) => Some(action),
@@ -72,7 +76,9 @@ fn action_at(parts: &TaskParts, id: ActionId) -> Option<&Action>
 
 // The snap action of a number, if there is one.
 fn snap_at(parts: &TaskParts, id: SnapId) -> Option<&Snap>
-    ensures { MatchOption result (snap_of parts.now id ≡ no_snap) (λ snap. snap.now ≡ snap_of parts.now id) }
+    ensures { MatchOption result
+        (snap_of parts.now id ≡ no_snap)
+        (λ snap. snap.now ≡ snap_of parts.now id) }
 {
     match parts.snaps.get(id.number() as usize) {
         Some(snap) => Some(snap),
@@ -80,7 +86,7 @@ fn snap_at(parts: &TaskParts, id: SnapId) -> Option<&Snap>
     }
 }
 
-// The start of an action; a number without an action, which no task has, counts as one that starts with the first snap action.
+// The start of an action; a number without an action, which no task has, counts as one that starts with snap action 0.
 fn start_of(parts: &TaskParts, id: ActionId) -> SnapId
     ensures { result ≡ (action_of parts.now id).start }
 {
@@ -106,7 +112,8 @@ fn watched<'a>(parts: &'a TaskParts, snap: &Snap) -> Option<&'a Condition>
 
 // Puts the facts of the over-all condition that a step watches at the end.
 fn push_watched_facts(out: &mut Items<u32>, parts: &TaskParts, snap: &Snap) -> Result<(), NoMemory>
-    ensures { OnOk result (out.new ≡ out.old ++ flat_map condition_facts (watches parts.now snap.now)) }
+    ensures { OnOk result
+        (out.new ≡ out.old ++ flat_map condition_facts (watches parts.now snap.now)) }
 {
     if let Some(condition) = watched(parts, snap) {
         push_facts(out, condition)?;
@@ -120,7 +127,8 @@ fn push_watched_fluents(
     parts: &TaskParts,
     snap: &Snap,
 ) -> Result<(), NoMemory>
-    ensures { OnOk result (out.new ≡ out.old ++ flat_map condition_fluents (watches parts.now snap.now)) }
+    ensures { OnOk result
+        (out.new ≡ out.old ++ flat_map condition_fluents (watches parts.now snap.now)) }
 {
     if let Some(condition) = watched(parts, snap) {
         push_fluents(out, condition)?;
@@ -130,7 +138,9 @@ fn push_watched_fluents(
 
 // Puts the fluents of the duration bounds that are read at a step at the end.
 fn push_own_bounds(out: &mut Items<u32>, parts: &TaskParts, snap: &Snap) -> Result<(), NoMemory>
-    ensures { OnOk result (out.new ≡ out.old ++ flat_map (λ b. form_fluents b.form) (read_bounds parts.now snap.now)) }
+    ensures { OnOk result
+        (out.new ≡ out.old
+        ++ flat_map (λ b. form_fluents b.form) (read_bounds parts.now snap.now)) }
 {
     if let Some(id) = snap.action {
         if let Some(action) = action_at(parts, id) {

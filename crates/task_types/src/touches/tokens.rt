@@ -104,7 +104,8 @@ fn push_fluent_token(
     fluent: FluentId,
     is_tracked: bool,
 ) -> Result<(), NoMemory>
-    ensures { OnOk result (out.new ≡ out.old ++ (if is_tracked then Token.Fluent fluent ∷ [] else [])) }
+    ensures { OnOk result
+        (out.new ≡ out.old ++ (if is_tracked then Token.Fluent fluent ∷ [] else [])) }
 {
     if is_tracked {
         out.push(Token::Fluent(fluent))?;
@@ -114,7 +115,10 @@ fn push_fluent_token(
 
 fn push_fluent_tokens(out: &mut Items<Token>, flags: &[bool]) -> Result<(), NoMemory>
     requires { length flags.now < 2 ^ 32 }
-    ensures { OnOk result (out.new ≡ out.old ++ map Token.Fluent (filter (λ f. slice_index_or flags.now f false) (numbers (length flags.now)))) }
+    ensures { OnOk result
+        (out.new ≡ out.old
+        ++ map Token.Fluent (filter (λ f. slice_index_or flags.now f false) (numbers
+        (length flags.now)))) }
 {
     for fluent in 0..flags.len() {
         push_fluent_token(out, FluentId::of(fluent as u32), flags[fluent])?;
@@ -146,7 +150,9 @@ fn push_all_comparison_tokens(
     actions: &[Action],
 ) -> Result<(), NoMemory>
     requires { length actions.now < 2 ^ 32 }
-    ensures { OnOk result (out.new ≡ out.old ++ flat_map (λ a. comparison_tokens a.0 a.1) (enumerate_from 0 actions.now)) }
+    ensures { OnOk result
+        (out.new ≡ out.old
+        ++ flat_map (λ a. comparison_tokens a.0 a.1) (enumerate_from 0 actions.now)) }
 {
     for place in 0..actions.len() {
         push_comparison_tokens(alloc, out, ActionId::of(place as u32), &actions[place])?;
@@ -156,7 +162,8 @@ fn push_all_comparison_tokens(
 
 // The group of some facts, if there are several.
 fn push_formula_token(out: &mut Items<Token>, facts: Items<FactId>) -> Result<(), NoMemory>
-    ensures { OnOk result (out.new ≡ out.old ++ map Token.Formulas (filter are_several (facts ∷ []))) }
+    ensures { OnOk result
+        (out.new ≡ out.old ++ map Token.Formulas (filter are_several (facts ∷ []))) }
 {
     if has_several(facts.as_slice()) {
         out.push(Token::Formulas(facts))?;
@@ -169,7 +176,9 @@ fn push_trail_tokens(
     out: &mut Items<Token>,
     trails: &[Trail],
 ) -> Result<(), NoMemory>
-    ensures { OnOk result (out.new ≡ out.old ++ map Token.Formulas (filter are_several (map trail_facts trails.now))) }
+    ensures { OnOk result
+        (out.new ≡ out.old
+        ++ map Token.Formulas (filter are_several (map trail_facts trails.now))) }
 {
     for trail in trails {
         push_formula_token(out, facts_of(alloc, trail)?)?;
@@ -178,7 +187,9 @@ fn push_trail_tokens(
 }
 
 fn push_soft_tokens(alloc: Global, out: &mut Items<Token>, softs: &[Soft]) -> Result<(), NoMemory>
-    ensures { OnOk result (out.new ≡ out.old ++ map Token.Formulas (filter are_several (map soft_facts softs.now))) }
+    ensures { OnOk result
+        (out.new ≡ out.old
+        ++ map Token.Formulas (filter are_several (map soft_facts softs.now))) }
 {
     for soft in softs {
         push_formula_token(out, soft_facts_of(alloc, soft)?)?;
@@ -187,7 +198,8 @@ fn push_soft_tokens(alloc: Global, out: &mut Items<Token>, softs: &[Soft]) -> Re
 }
 
 fn push_action_token(out: &mut Items<Token>, id: ActionId, action: &Action) -> Result<(), NoMemory>
-    ensures { OnOk result (out.new ≡ out.old ++ (if is_some action.now.end then Token.Action id ∷ [] else [])) }
+    ensures { OnOk result
+        (out.new ≡ out.old ++ (if is_some action.now.end then Token.Action id ∷ [] else [])) }
 {
     if action.end.is_some() {
         out.push(Token::Action(id))?;
@@ -197,7 +209,10 @@ fn push_action_token(out: &mut Items<Token>, id: ActionId, action: &Action) -> R
 
 fn push_action_tokens(out: &mut Items<Token>, actions: &[Action]) -> Result<(), NoMemory>
     requires { length actions.now < 2 ^ 32 }
-    ensures { OnOk result (out.new ≡ out.old ++ map (λ a. Token.Action a.0) (filter (λ a. is_some a.1.end) (enumerate_from 0 actions.now))) }
+    ensures { OnOk result
+        (out.new ≡ out.old
+        ++ map (λ a. Token.Action a.0) (filter (λ a. is_some a.1.end)
+        (enumerate_from 0 actions.now))) }
 {
     for place in 0..actions.len() {
         push_action_token(out, ActionId::of(place as u32), &actions[place])?;
@@ -211,10 +226,28 @@ fn push_tracked_tokens(
     parts: &TaskParts,
 ) -> Result<(), NoMemory>
     requires { length parts.now.fluents < 2 ^ 32 }
-    ensures { OnOk result (out.new ≡ out.old ++ map Token.Fluent (filter (λ f. is_in f (tracked_fluents parts.now)) (numbers (length parts.now.fluents)))) }
+    ensures { OnOk result
+        (out.new ≡ out.old
+        ++ map Token.Fluent (filter (λ f. is_in f (tracked_fluents parts.now)) (numbers
+        (length parts.now.fluents)))) }
 {
     let flags = tracked_flags(alloc, parts)?;
     push_fluent_tokens(out, flags.as_slice())?;
+    Ok(())
+}
+
+fn push_tokens(alloc: Global, out: &mut Items<Token>, parts: &TaskParts) -> Result<(), NoMemory>
+    requires facts { length parts.now.facts < 2 ^ 32 }
+    requires fluents { length parts.now.fluents < 2 ^ 32 }
+    requires actions { length parts.now.actions < 2 ^ 32 }
+    ensures { OnOk result (out.new ≡ out.old ++ tokens parts.now) }
+{
+    push_fact_tokens(out, parts.facts.len())?;
+    push_tracked_tokens(alloc, out, parts)?;
+    push_all_comparison_tokens(alloc, out, parts.actions.as_slice())?;
+    push_trail_tokens(alloc, out, parts.hard.as_slice())?;
+    push_soft_tokens(alloc, out, parts.soft.as_slice())?;
+    push_action_tokens(out, parts.actions.as_slice())?;
     Ok(())
 }
 
@@ -223,14 +256,9 @@ pub fn tokens_of(alloc: Global, parts: &TaskParts) -> Result<Items<Token>, NoMem
     requires facts { length parts.now.facts < 2 ^ 32 }
     requires fluents { length parts.now.fluents < 2 ^ 32 }
     requires actions { length parts.now.actions < 2 ^ 32 }
-    ensures { IfOk result (λ ts. ts ≡ tokens parts.now) }
+    ensures { IfOk result (λ list. list ≡ tokens parts.now) }
 {
     let mut list = Items::new(alloc);
-    push_fact_tokens(&mut list, parts.facts.len())?;
-    push_tracked_tokens(alloc, &mut list, parts)?;
-    push_all_comparison_tokens(alloc, &mut list, parts.actions.as_slice())?;
-    push_trail_tokens(alloc, &mut list, parts.hard.as_slice())?;
-    push_soft_tokens(alloc, &mut list, parts.soft.as_slice())?;
-    push_action_tokens(&mut list, parts.actions.as_slice())?;
+    push_tokens(alloc, &mut list, parts)?;
     Ok(list)
 }

@@ -44,7 +44,8 @@ fn put_once(
     entry: &(TokenId, Touch),
     snap: u32,
 ) -> Result<(), NoMemory>
-    ensures { OnOk result (ArePut rows.old.items rows.new.items entry.now.0 entry.now.1 (snap ∷ [])) }
+    ensures { OnOk result
+        (ArePut rows.old.items rows.new.items entry.now.0 entry.now.1 (snap ∷ [])) }
 {
     let at = snap as usize;
     if at < rows.len() && !ends_with(rows[at].as_slice(), entry) {
@@ -67,14 +68,15 @@ fn put_each(
     Ok(())
 }
 
-// Puts an entry at the end of the rows of the snap actions to which a table leads back; a number without a row leads to none.
+// Puts an entry at the end of the rows of the snap actions to which a table leads back from a number, if it does.
 fn put_from(
     rows: &mut Vec<Items<(TokenId, Touch)>>,
     entry: &(TokenId, Touch),
     table: &[Items<u32>],
     number: u32,
 ) -> Result<(), NoMemory>
-    ensures { OnOk result (ArePut rows.old.items rows.new.items entry.now.0 entry.now.1 (row_of table.now number)) }
+    ensures { OnOk result
+        (ArePut rows.old.items rows.new.items entry.now.0 entry.now.1 (row_of table.now number)) }
 {
     if let Some(snaps) = table.get(number as usize) {
         put_each(rows, entry, snaps.as_slice())?;
@@ -104,7 +106,8 @@ fn put_fact(
     token: TokenId,
     fact: FactId,
 ) -> Result<(), NoMemory>
-    ensures { OnOk result (IsPutInAll rows.old.items rows.new.items index.now token (Token.Fact fact)) }
+    ensures { OnOk result
+        (IsPutInAll rows.old.items rows.new.items index.now token (Token.Fact fact)) }
 {
     put_from(
         rows,
@@ -127,7 +130,8 @@ fn put_fluent(
     token: TokenId,
     fluent: FluentId,
 ) -> Result<(), NoMemory>
-    ensures { OnOk result (IsPutInAll rows.old.items rows.new.items index.now token (Token.Fluent fluent)) }
+    ensures { OnOk result
+        (IsPutInAll rows.old.items rows.new.items index.now token (Token.Fluent fluent)) }
 {
     put_from(
         rows,
@@ -189,14 +193,11 @@ fn put_formulas(
     token: TokenId,
     facts: &Items<FactId>,
 ) -> Result<(), NoMemory>
-    ensures { OnOk result (IsPutInAll rows.old.items rows.new.items index.now token (Token.Formulas facts.now)) }
+    ensures { OnOk result
+        (IsPutInAll rows.old.items rows.new.items index.now token (Token.Formulas facts.now)) }
 {
-    put_from_each(
-        rows,
-        &(token, Touch::Mark),
-        index.changed_facts.as_slice(),
-        facts.as_slice(),
-    )?;
+    let changed = index.changed_facts.as_slice();
+    put_from_each(rows, &(token, Touch::Mark), changed, facts.as_slice())?;
     Ok(())
 }
 
@@ -206,7 +207,8 @@ fn put_action(
     token: TokenId,
     action: ActionId,
 ) -> Result<(), NoMemory>
-    ensures { OnOk result (IsPutInAll rows.old.items rows.new.items index.now token (Token.Action action)) }
+    ensures { OnOk result
+        (IsPutInAll rows.old.items rows.new.items index.now token (Token.Action action)) }
 {
     put_from(
         rows,

@@ -80,16 +80,15 @@ fn push_softs(out: &mut Items<u32>, softs: &[Soft]) -> Result<(), NoMemory>
     Ok(())
 }
 
-// The tracked fluents, with repetitions.
-fn tracked(alloc: Global, parts: &TaskParts) -> Result<Items<u32>, NoMemory>
-    ensures { IfOk result (λ fluents. fluents ≡ tracked_fluents parts.now) }
+// Puts the tracked fluents at the end, with repetitions.
+fn push_tracked(out: &mut Items<u32>, parts: &TaskParts) -> Result<(), NoMemory>
+    ensures { OnOk result (out.new ≡ out.old ++ tracked_fluents parts.now) }
 {
-    let mut fluents = Items::new(alloc);
-    push_snaps(&mut fluents, parts.snaps.as_slice())?;
-    push_actions(&mut fluents, parts.actions.as_slice())?;
-    push_fluents(&mut fluents, &parts.goal)?;
-    push_softs(&mut fluents, parts.soft.as_slice())?;
-    Ok(fluents)
+    push_snaps(out, parts.snaps.as_slice())?;
+    push_actions(out, parts.actions.as_slice())?;
+    push_fluents(out, &parts.goal)?;
+    push_softs(out, parts.soft.as_slice())?;
+    Ok(())
 }
 
 // Flags that tell which of the numbers below `count` stand in the list.
@@ -108,8 +107,10 @@ fn flags_of(alloc: Global, numbers: &[u32], count: usize) -> Result<Vec<bool>, N
 
 /// A flag for each fluent, set where it is tracked.
 pub fn tracked_flags(alloc: Global, parts: &TaskParts) -> Result<Vec<bool>, NoMemory>
-    ensures { IfOk result (λ flags. IsFlags flags.items (length parts.now.fluents) (tracked_fluents parts.now)) }
+    ensures { IfOk result
+        (λ flags. IsFlags flags.items (length parts.now.fluents) (tracked_fluents parts.now)) }
 {
-    let fluents = tracked(alloc, parts)?;
+    let mut fluents = Items::new(alloc);
+    push_tracked(&mut fluents, parts)?;
     flags_of(alloc, fluents.as_slice(), parts.fluents.len())
 }

@@ -1,4 +1,3 @@
-use Rattle.std.proofs.Common.{◌≡◌, sym, subst}
 use Rattle.std.specs.List.{flat_map}
 use Rattle.task_types.specs.declared.tokens.Token.TheVariants as token
 use Rattle.task_types.specs.declared.tokens.Touch.TheVariants.{Look, Mark, Bend}

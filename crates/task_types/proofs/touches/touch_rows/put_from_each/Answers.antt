@@ -1,4 +1,4 @@
-use Rattle.std.proofs.Common.{sym, subst, take, ◌++◌}
+use Rattle.std.proofs.Common.{sym, subst, take}
 use Rattle.std.specs.List.{flat_map}
 use Rattle.task_types.specs.Related.{ArePut, row_of}
 use Rattle.task_types.proofs.LastEntries.{put_append}
