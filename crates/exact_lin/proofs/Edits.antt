@@ -1,6 +1,6 @@
 -- Edits of lists of ids and scalars, by the terms that these show.
 use Rattle.std.proofs.Common.{◌≡◌, ◌≢◌, ℕ, suc, ◌+◌, ◌<◌, ◌≤◌, sym, ◌∙◌, ap, ap₂, subst, arith, List, ◌∷◌, ◌++◌, length, take, drop, get_or, add-one, true, false, Bool, if◌then◌else◌}
-use Rattle.std.specs.Prelude.{Result, Ok, Err, OnOk}
+use Rattle.std.specs.Prelude.{Result, Ok, Err, OnOk, IsErrOf}
 use Rattle.std.specs.List.{insert, remove, slice_set}
 use Rattle.std.proofs.lemmas.List.{map-append, length-map, take-map, drop-map, set_split, get_or-map}
 use Rattle.rational.specs.Rational.{ℚ, zeroℚ, ◌+ℚ◌}
@@ -72,3 +72,12 @@ module _ {V S : Type 0} (number : V → ℕ) (value : S → ℚ) (old : List (V 
 pub OnOk-always : {T E : Type 0} (r : Result T E) (P : Type 0) → P → OnOk r P
 OnOk-always (Ok x) P p = p
 OnOk-always (Err e) P p = tt
+
+-- a fault is the same fault in another result
+error_of : {T E : Type 0} → Result T E → E → E
+error_of (Ok x) d = d
+error_of (Err e) d = e
+
+pub IsErrOf-other : {T U E : Type 0} (a b : E) → IsErrOf {T = T} (Err a) b → IsErrOf {T = U} (Err a) b
+unfolding error_of
+IsErrOf-other {T} {U} {E} a b e = ap (λ (x : E). Err x) (ap (λ (r : Result T E). error_of r a) e)

@@ -6,7 +6,7 @@ use Rattle.rational.proofs.Field.{zero_add, zero_mul, add_comm, ℚ_ring}
 use Rattle.rational.proofs.Ring.{law, num, ◌⊕◌, ◌⊗◌, ◌≐◌}
 use Rattle.exact_lin.specs.Forms.{Terms, LinearForm, AscendFrom, Covers, terms_at, form_at, is_zero, with_term, increased, increased_by, plus_constant, plus_term, plus_scaled}
 use Rattle.exact_lin.proofs.Zeros.{is_zero-zero, zero-is_zero}
-use Rattle.exact_lin.proofs.MergeTerms.{ranks_at}
+use Rattle.exact_lin.proofs.Merge.{ranks_at}
 
 -- ---- ids
 

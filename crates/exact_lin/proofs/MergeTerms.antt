@@ -1,20 +1,13 @@
 -- A merge gives what adding the terms one by one gives, and is defined where that is.
 use Rattle.std.proofs.Common.{◌≡◌, ℕ, ◌+◌, ◌<◌, ◌≤◌, sym, ◌∙◌, ap, subst, refl, arith, [], ◌∷◌, ◌++◌, Less, Equal, Greater, Ordering, Bool, true, false, nat_eq, if◌then◌else◌}
 use Rattle.std.specs.Ordering.{nat_cmp, match_ordering, MatchOrdering}
-use Rattle.std.specs.Cmp.{nat_cmp_is, ranks}
 use Rattle.std.proofs.lemmas.Bool.Decides.{nat_tests}
 use Rattle.rational.specs.Rational.{ℚ, zeroℚ, ◌+ℚ◌, ◌*ℚ◌}
 use Rattle.exact_lin.specs.Reckoning.{CanAdd, Fits}
 use Rattle.exact_lin.specs.Forms.{Terms, AscendFrom, coefficient, is_zero, with_term, increased, increased_by, CanAddTerms}
-use Rattle.exact_lin.proofs.Merge.{absorb, merged, CanAbsorb, CanMerge, Merging, absorb-less}
+use Rattle.exact_lin.specs.Merges.{absorb, merged, CanAbsorb, CanMerge}
+use Rattle.exact_lin.proofs.Merge.{Merging, absorb-less, lt-less, ranks_at}
 use Rattle.exact_lin.proofs.Results.{fits-product, CanAdd-zero}
-
-pub lt-less : (m n : ℕ) → m < n → nat_cmp m n ≡ Less
-lt-less m n h = sym (nat_cmp_is m n Less h)
-
--- what an answer of the comparison says
-pub ranks_at : (m n : ℕ) (o : Ordering) → nat_cmp m n ≡ o → MatchOrdering o (m < n) (m ≡ n) (n < m)
-ranks_at m n o e = subst (λ (p : Ordering). MatchOrdering p (m < n) (m ≡ n) (n < m)) e (ranks m n)
 
 -- ---- the terms
 
@@ -138,16 +131,6 @@ merge-from_CanAddTerms limit y (u ∷ us) high low ts b a h =
 -- what is needed of the rest of a merge, where the terms can be added
 pub needed-next : (limit : ℕ) (y : ℚ) (one other done left right us : Terms) (u : ℕ × ℚ) → AscendFrom 0 one → AscendFrom 0 other → Merging limit y one other done left right → right ≡ u ∷ us → CanAddTerms limit one y other → CanMerge limit y (u ∷ us) left
 needed-next limit y one other done left right us u a b m e h = subst (λ (ts : Terms). CanMerge limit y ts left) e (m.needed (merge-from_CanAddTerms limit y other 0 0 one b a h))
-
--- the state of a merge, by what its parts equal
-pub at_next : {limit : ℕ} {y : ℚ} {one other done left right : Terms} (us : Terms) (u : ℕ × ℚ) → right ≡ u ∷ us → Merging limit y one other done left right → Merging limit y one other done left (u ∷ us)
-at_next {limit} {y} {one} {other} {done} {left} us u e m = subst (λ (rs : Terms). Merging limit y one other done left rs) e m
-
-pub at_left : {limit : ℕ} {y : ℚ} {one other done left same right : Terms} → left ≡ same → Merging limit y one other done left right → Merging limit y one other done same right
-at_left {limit} {y} {one} {other} {done} {left} {same} {right} e m = subst (λ (ls : Terms). Merging limit y one other done ls right) e m
-
-pub done-is : {limit : ℕ} {y : ℚ} {one other done left right : Terms} (more : Terms) → more ≡ done → Merging limit y one other done left right → Merging limit y one other more left right
-done-is {limit} {y} {one} {other} {done} {left} {right} more e m = subst (λ (ds : Terms). Merging limit y one other ds left right) (sym e) m
 
 -- at the end of a merge all terms are added, and could be
 module _ {limit : ℕ} {y : ℚ} {one other done left right : Terms} (e : right ≡ []) (a : AscendFrom 0 one) (b : AscendFrom 0 other) (m : Merging limit y one other done left right) where

@@ -16,7 +16,7 @@ use Rattle.rational.specs.Rational.{ℚ, ratio, whole, zeroℚ, neg_ℚ, inverse
 use Rattle.rational.proofs.Fractions.{den_pos, ratio-parts, equal_ratios}
 use Rattle.rational.proofs.Order.{lt_ratio_in, positive_in}
 use Rattle.exact_lin.specs.Reckoning.{wide_limit, IsFraction, Within}
-use Rattle.exact_lin.proofs.Parts.{Made, made, back, back-is, back-unsigned, back-num, num-is, den-is}
+use Rattle.exact_lin.proofs.Parts.{wide, Made, made, back, back-is, back-unsigned, back-num, num-is, den-is}
 
 one_pos : 0 < 1
 one_pos = omega arith
@@ -169,5 +169,5 @@ module _ (n x : ℤ) (d s g : ℕ) (w : Within wide_limit n) (h : 0 < d) (l : d 
   denominator-is : d / g ≡ d / gcd (nat_abs n) d
   denominator-is = ap (λ (m : ℕ). d / m) factor-is
 
-  pub reduced-made : Made x (d / g) (Unit {0}) (ratio n d)
-  reduced-made = made x _ (d / g) _ _ _ numerator-is denominator-is (divided-fraction n d h w l) (divided-ratio n d h) tt
+  pub reduced-made : Made wide x (d / g) (Unit {0}) (ratio n d)
+  reduced-made = made wide x _ (d / g) _ _ _ numerator-is denominator-is (divided-fraction n d h w l) (divided-ratio n d h) tt

@@ -1,10 +1,11 @@
 -- Adding to the term of an id, at its place.
-use Rattle.std.proofs.Common.{◌≡◌, ◌≢◌, ℕ, suc, ◌+◌, ◌<◌, ◌≤◌, sym, ◌∙◌, ap, subst, refl, arith, List, [], ◌∷◌, ◌++◌, length, take, drop, get_or, Less, Equal, Greater, Ordering}
+use Rattle.std.proofs.Common.{◌≡◌, ◌≢◌, ℕ, zero, suc, ◌+◌, ◌<◌, ◌≤◌, sym, ◌∙◌, ap, subst, refl, arith, List, [], ◌∷◌, ◌++◌, length, take, drop, get_or, Less, Equal, Greater, Ordering}
 use Rattle.std.specs.Ordering.{nat_cmp, match_ordering}
-use Rattle.std.proofs.lemmas.List.{map-append, length-map}
+use Rattle.std.proofs.lemmas.List.{map-append, length-map, get_or-map}
 use Rattle.rational.specs.Rational.{ℚ, zeroℚ, ◌+ℚ◌}
 use Rattle.exact_lin.specs.Forms.{Terms, shown, AscendFrom, coefficient, with_term, increased, place_in}
-use Rattle.exact_lin.proofs.MergeTerms.{ranks_at, lt-less, coefficient-below, coefficient-later, coefficient-here}
+use Rattle.exact_lin.proofs.Merge.{ranks_at, lt-less}
+use Rattle.exact_lin.proofs.MergeTerms.{coefficient-below, coefficient-later, coefficient-here}
 
 pub place-less : (t : ℕ × ℚ) (ts : Terms) (n : ℕ) → t.0 < n → place_in (t ∷ ts) n ≡ suc (place_in ts n)
 place-less t ts n h = ap (λ (o : Ordering). match_ordering o (suc (place_in ts n)) 0 0) (lt-less t.0 n h)
@@ -25,6 +26,29 @@ ascend-last low (t ∷ ts) x a = omega (arith, a.0, ascend-last (t.0 + 1) ts x a
 pub place-end : (low n : ℕ) (ts : Terms) (x : ℕ × ℚ) → AscendFrom low (ts ++ x ∷ []) → x.0 < n → place_in (ts ++ x ∷ []) n ≡ length (ts ++ x ∷ [])
 place-end low n [] x a h = place-less x [] n h
 place-end low n (t ∷ ts) x a h = place-less t (ts ++ x ∷ []) n (omega (arith, ascend-last (t.0 + 1) ts x a.2, h)) ∙ ap suc (place-end (t.0 + 1) n ts x a.2 h)
+
+-- the terms before a place of an id below n count, and those from a place of an id of at least n on don't
+ascend-at : (low i : ℕ) (ts : Terms) (d : ℕ × ℚ) → AscendFrom low ts → i < length ts → low ≤ (get_or ts i d).0
+ascend-at low i [] d a h = absurd (omega arith)
+ascend-at low zero (t ∷ ts) d a h = a.0
+ascend-at low (suc i) (t ∷ ts) d a h = omega (arith, a.0, ascend-at (t.0 + 1) i ts d a.2 (omega arith))
+
+pub place-beyond : (low n i : ℕ) (ts : Terms) (d : ℕ × ℚ) → AscendFrom low ts → i < length ts → (get_or ts i d).0 < n → i < place_in ts n
+place-beyond low n i [] d a h l = absurd (omega arith)
+place-beyond low n zero (t ∷ ts) d a h l = omega (arith, place-less t ts n l)
+place-beyond low n (suc i) (t ∷ ts) d a h l =
+    let first : t.0 < n = omega (arith, l, ascend-at (t.0 + 1) i ts d a.2 (omega arith)) in
+    omega (arith, place-less t ts n first, place-beyond (t.0 + 1) n i ts d a.2 (omega arith) l)
+
+pub place-before : (n i : ℕ) (ts : Terms) (d : ℕ × ℚ) → i < length ts → n ≤ (get_or ts i d).0 → place_in ts n ≤ i
+place-before n i [] d h l = absurd (omega arith)
+place-before n zero (t ∷ ts) d h l = omega (arith, place-other t ts n l)
+place-before n (suc i) (t ∷ ts) d h l = go (nat_cmp t.0 n) (place-before n i ts d (omega arith) l)
+  where
+    go : (o : Ordering) → place_in ts n ≤ i → match_ordering o (suc (place_in ts n)) 0 0 ≤ suc i
+    go Less k = omega arith
+    go Equal k = omega arith
+    go Greater k = omega arith
 
 pub place-within : (ts : Terms) (n : ℕ) → place_in ts n ≤ length ts
 place-within [] n = omega arith
@@ -88,3 +112,23 @@ shown-place_end {V} {S} number value n terms front x e a h = subst (λ (ts : Lis
 
     shown-is : shown number value (front ++ x ∷ []) ≡ shown number value front ++ (number x.0, value x.1) ∷ []
     shown-is = map-append show front (x ∷ [])
+
+module _ {V S : Type 0} (number : V → ℕ) (value : S → ℚ) (n : ℕ) (terms : List (V × S)) where
+  abbrev show : V × S → ℕ × ℚ
+  show y = (number y.0, value y.1)
+
+  as_long : length (shown number value terms) ≡ length terms
+  as_long = length-map terms show
+
+  pub shown-place_within : place_in (shown number value terms) n ≤ length terms
+  shown-place_within = omega (arith, place-within (shown number value terms) n, as_long)
+
+  module _ (i : ℕ) (x : V × S) (h : i < length terms) where
+    shown-at : (get_or (shown number value terms) i (show x)).0 ≡ number (get_or terms i x).0
+    shown-at = ap (λ (y : ℕ × ℚ). y.0) (get_or-map show terms i x (show x) h)
+
+    pub shown-place_beyond : AscendFrom 0 (shown number value terms) → number (get_or terms i x).0 < n → i < place_in (shown number value terms) n
+    shown-place_beyond a l = place-beyond 0 n i (shown number value terms) (show x) a (omega (arith, h, as_long)) (omega (arith, l, shown-at))
+
+    pub shown-place_before : n ≤ number (get_or terms i x).0 → place_in (shown number value terms) n ≤ i
+    shown-place_before l = place-before n i (shown number value terms) (show x) (omega (arith, h, as_long)) (omega (arith, l, shown-at))

@@ -1,5 +1,5 @@
 -- A fraction of 128 bits whose parts fit 64.
-use Rattle.std.proofs.Common.{◌≡◌, ℕ, ◌≤◌, sym, ◌∙◌, ap, subst, arith, ℤ, pos, negsuc}
+use Rattle.std.proofs.Common.{◌≡◌, ℕ, ◌≤◌, sym, ◌∙◌, ap, subst, arith, ℤ}
 use Rattle.std.proofs.Math.IntN.{nat_abs}
 use Rattle.std.proofs.Common.{leb}
 use Rattle.std.specs.Prelude.{◌↔◌, IsTrue}
@@ -8,12 +8,8 @@ use mir.Val.{Fits as FitsWidth, SFits, to_z, of_z}
 use mir.Syntax.{w64}
 use mir.Facts.{to_z-of_z}
 use Rattle.rational.specs.Rational.{ℚ, ratio}
-use Rattle.exact_lin.specs.Reckoning.{wide_limit, narrow_limit, IsFraction, Within, Fits}
-use Rattle.exact_lin.proofs.Parts.{back, back-num, num-is, den-is}
-
-within-fits : (z : ℤ) → Within narrow_limit z → SFits w64 z
-within-fits (pos n) h = record { sfits = omega arith }
-within-fits (negsuc n) h = record { sfits = omega arith }
+use Rattle.exact_lin.specs.Reckoning.{wide_limit, narrow_limit, IsFraction, Fits}
+use Rattle.exact_lin.proofs.Parts.{narrow, back, back-num, num-is, den-is}
 
 module _ (n : ℤ) (d : ℕ) (q : ℚ) (i : IsFraction wide_limit n d) (v : ratio n d ≡ q) where
   pub fits-parts : (limit : ℕ) → nat_abs (back n) ≤ limit → d ≤ limit → Fits limit q
@@ -27,7 +23,7 @@ module _ (n : ℤ) (d : ℕ) (q : ℚ) (i : IsFraction wide_limit n d) (v : rati
 
   module _ (f : Fits narrow_limit q) where
     pub numerator-fits : SFits w64 (back n)
-    numerator-fits = within-fits (back n) (numerator-small narrow_limit f)
+    numerator-fits = narrow.holds (back n) (numerator-small narrow_limit f)
 
     pub denominator-fits : FitsWidth w64 d
     denominator-fits = record { fits = omega (arith, denominator-small narrow_limit f) }

@@ -1,4 +1,4 @@
--- Linear forms: a constant and terms. What they stand for, how they are reckoned, and where the reckoning is defined.
+-- Believed: linear forms, what they stand for, how they are reckoned, and where the reckoning is defined.
 use Rattle.std.specs.Prelude.{◌≡◌, ℕ, ◌+◌, ◌≤◌, ◌<◌, Bool, List, [], ◌∷◌, ◌++◌, suc, length, take, drop, map, ⊤, nat_eq, if◌then◌else◌, slice_index_or, refl}
 use Rattle.std.specs.Ordering.{nat_cmp, match_ordering}
 use Rattle.std.specs.Coded.{Coded, code_by, coded×, coded_ℕ, coded_list}

@@ -1,4 +1,4 @@
--- What each impl of `Id` shows of its laws.
+-- Private: proofs of the laws that each impl of `Id` shows.
 use Rattle.std.proofs.Common.{◌≡◌, ℕ, arith, nat_eq}
 use Rattle.std.specs.Prelude.{◌↔◌, IsTrue}
 use Rattle.std.proofs.lemmas.Bool.Decides.{nat_tests}

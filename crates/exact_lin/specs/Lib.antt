@@ -5,3 +5,4 @@ pub mod Scalars
 pub mod Ids
 pub mod Forms
 pub mod Reckonings
+pub mod Merges

@@ -1,4 +1,4 @@
--- What is defined under a limit is defined under a larger one.
+-- Private: proofs that what is defined under a limit is defined under a larger one, for the impls of `Scalar`.
 use Rattle.std.proofs.Common.{ℕ, ◌≤◌, arith}
 use Rattle.rational.specs.Rational.{ℚ}
 use Rattle.exact_lin.specs.Reckoning.{CanAdd, CanMultiply, narrow_limit, wide_limit}

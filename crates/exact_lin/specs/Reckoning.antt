@@ -1,4 +1,4 @@
--- Sums and products of fractions whose parts have a limit: where they are defined.
+-- Believed: where sums and products of fractions whose parts have a limit are defined.
 use Rattle.std.specs.Prelude.{◌≡◌, ℕ, ◌*◌, ◌/◌, ◌≤◌, ℤ, pos, ◌+ℤ◌, ◌*ℤ◌, T, Result, Ok, Err}
 use Rattle.std.specs.Coded.{Coded, code_by, coded×, coded_ℕ, coded_ℤ}
 use lib.IntN.{nat_abs}

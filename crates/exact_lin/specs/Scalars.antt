@@ -1,4 +1,4 @@
--- What the two impls of `Scalar` show of their laws.
+-- Private: proofs of the laws that the two impls of `Scalar` show.
 use Rattle.std.proofs.Common.{◌≡◌, ◌&&◌, int_eq, nat_eq, ℤ, pos, ◌*ℤ◌, ℕ, ap₂, sym, subst, arith}
 use Rattle.std.specs.Prelude.{◌↔◌, IsTrue}
 use Rattle.std.proofs.lemmas.Bool.Decides.{nat_tests}

@@ -1,4 +1,4 @@
--- What the sign of a number says.
+-- Believed: what the sign of a number says.
 use Rattle.std.specs.Prelude.{◌≡◌}
 use Rattle.rational.specs.Rational.{ℚ, zeroℚ, ◌<ℚ◌}
 use Rattle.exact_lin.specs.declared.scalars.Sign.{Sign}

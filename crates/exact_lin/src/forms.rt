@@ -3,12 +3,12 @@
 ghost use Rattle.std.specs.Prelude.{◌≡◌, ℕ, length, map, OnOk, IfOk, OnErr, IsErrOf};
 ghost use Rattle.rational.specs.Rational.{ℚ, zeroℚ, ◌+ℚ◌, ◌*ℚ◌};
 ghost use Rattle.exact_lin.specs.Reckoning.{CanAdd, Reckons};
-ghost use Rattle.exact_lin.specs.Forms.{shown, IsForm, Covers, form_at, values_of, constant_form, plus_constant, plus_term, plus_scaled, CanAddTerm, CanAddScaled, CanEvaluate};
+ghost use Rattle.exact_lin.specs.Forms.{shown, IsForm, Covers, coefficient, form_at, values_of, constant_form, plus_constant, plus_term, plus_scaled, CanAddTerm, CanAddScaled, CanEvaluate};
 
 use crate::faults::{FormFault, NoMemory};
 use crate::ids::Id;
 use crate::scalars::{Scalar, Wide};
-use crate::terms::{add_to_terms, merge, sum_terms};
+use crate::terms::{add_to_terms, coefficient_of, merge, sum_terms};
 use std::alloc::Global;
 use std::marker::Model;
 
@@ -66,6 +66,13 @@ impl<V: Id, S: Scalar> Form<V, S> {
         ensures form { IsForm self.now }
     {
         self.terms.as_slice()
+    }
+
+    /// The coefficient of an id, 0 where it has no term. It is found by halving the terms.
+    pub fn coefficient(&self, v: V) -> S
+        ensures { S.value result ≡ coefficient self.now.terms (V.number_of v) }
+    {
+        coefficient_of(self.terms.as_slice(), v)
     }
 
     /// Adds a number to the constant. The form is unchanged where that fails.

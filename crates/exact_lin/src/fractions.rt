@@ -8,16 +8,11 @@ ghost use Rattle.rational.specs.Rational.{ratio, whole, zeroℚ, ◌+ℚ◌, ◌
 ghost use Rattle.exact_lin.specs.Reckoning.{wide_limit, narrow_limit, IsFraction, Within, Fits, CanAdd, CanMultiply};
 ghost use Rattle.exact_lin.specs.Signs.{MatchSign};
 
+use crate::narrow_reckoning::{NARROW_LIMIT, narrow_order, narrow_product, narrow_sum};
 use crate::reckoning::{divided, greatest, order_of, product_of, sum_of};
 use crate::scalars::{Scalar, Sign, Wide};
 use std::cmp::Ordering;
 use std::marker::Model;
-
-// The largest part of a [`Fraction`], 2^127 - 1.
-const WIDE_LIMIT: u128 = 170141183460469231731687303715884105727;
-
-// The largest part of a [`Narrow`], 2^63 - 1.
-const NARROW_LIMIT: u128 = 9223372036854775807;
 
 /// An exact fraction in lowest terms. Its denominator is at least 1, and neither part is past 2^127 - 1.
 #[derive(Clone, Copy, Debug, PartialEq, Eq)]
@@ -77,6 +72,13 @@ impl Narrow {
     {
         Fraction::made(self.num as i128, self.den as u128)
     }
+
+    fn order(self, other: Narrow) -> Ordering
+        ensures value { result ≡ cmp_ℚ self other }
+        ensures order { MatchOrdering result (self <ℚ other) (self ≡ other) (other <ℚ self) }
+    {
+        narrow_order(self.num, self.den, other.num, other.den)
+    }
 }
 
 impl Fraction {
@@ -104,28 +106,6 @@ impl Fraction {
         ensures positive { pos 0 <ℤ result }
     {
         self.den as i128
-    }
-
-    // The sum, where the reckoning stays within the limit.
-    pub(crate) fn sum_within(self, other: Fraction, limit: u128) -> Result<Fraction, Wide>
-        requires { limit ≤ wide_limit }
-        ensures { OkIff result (CanAdd limit self other) (self +ℚ other) }
-    {
-        match sum_of(limit, self.num, self.den, other.num, other.den) {
-            Some((num, den)) => Ok(Fraction { num, den }),
-            None => Err(Wide),
-        }
-    }
-
-    // The product, where the reckoning stays within the limit.
-    pub(crate) fn product_within(self, other: Fraction, limit: u128) -> Result<Fraction, Wide>
-        requires { limit ≤ wide_limit }
-        ensures { OkIff result (CanMultiply limit self other) (self *ℚ other) }
-    {
-        match product_of(limit, self.num, self.den, other.num, other.den) {
-            Some((num, den)) => Ok(Fraction { num, den }),
-            None => Err(Wide),
-        }
     }
 
     // The fraction of two parts that are in lowest terms and not too large.
@@ -195,7 +175,7 @@ impl Fraction {
     pub fn narrow(self) -> Option<Narrow>
         ensures { SomeIff result (Fits narrow_limit self) self }
     {
-        if self.is_within(NARROW_LIMIT) {
+        if self.is_within(NARROW_LIMIT as u128) {
             Some(self.narrowed())
         } else {
             None
@@ -237,11 +217,17 @@ impl Scalar for Fraction {
     }
 
     fn add(self, other: Fraction) -> Result<Fraction, Wide> {
-        self.sum_within(other, WIDE_LIMIT)
+        match sum_of(self.num, self.den, other.num, other.den) {
+            Some((num, den)) => Ok(Fraction { num, den }),
+            None => Err(Wide),
+        }
     }
 
     fn mul(self, other: Fraction) -> Result<Fraction, Wide> {
-        self.product_within(other, WIDE_LIMIT)
+        match product_of(self.num, self.den, other.num, other.den) {
+            Some((num, den)) => Ok(Fraction { num, den }),
+            None => Err(Wide),
+        }
     }
 
     fn neg(self) -> Fraction {
@@ -289,16 +275,16 @@ impl Scalar for Narrow {
     }
 
     fn add(self, other: Narrow) -> Result<Narrow, Wide> {
-        match self.widen().sum_within(other.widen(), NARROW_LIMIT) {
-            Ok(sum) => Ok(sum.narrowed()),
-            Err(wide) => Err(wide),
+        match narrow_sum(self.num, self.den, other.num, other.den) {
+            Some((num, den)) => Ok(Narrow { num, den }),
+            None => Err(Wide),
         }
     }
 
     fn mul(self, other: Narrow) -> Result<Narrow, Wide> {
-        match self.widen().product_within(other.widen(), NARROW_LIMIT) {
-            Ok(product) => Ok(product.narrowed()),
-            Err(wide) => Err(wide),
+        match narrow_product(self.num, self.den, other.num, other.den) {
+            Some((num, den)) => Ok(Narrow { num, den }),
+            None => Err(Wide),
         }
     }
 
@@ -315,7 +301,7 @@ impl Scalar for Narrow {
     }
 
     fn cmp(self, other: Narrow) -> Ordering {
-        self.widen().order(other.widen())
+        self.order(other)
     }
 
     ghost distinct = { λ x y e. e };
@@ -375,7 +361,7 @@ impl PartialOrd for Narrow {
     ghost laws = { po cmp_total cmp_ties };
 
     fn partial_cmp(&self, other: &Narrow) -> Option<Ordering> {
-        Some(self.widen().order(other.widen()))
+        Some(self.order(*other))
     }
 }
 
@@ -393,6 +379,6 @@ impl Ord for Narrow {
     ghost matches_eq = { cmp_ties };
 
     fn cmp(&self, other: &Narrow) -> Ordering {
-        self.widen().order(other.widen())
+        self.order(*other)
     }
 }

@@ -10,6 +10,7 @@ mod forms;
 mod fractions;
 mod id_vec;
 mod ids;
+mod narrow_reckoning;
 mod reckoning;
 pub mod reckoning_laws;
 mod scalars;

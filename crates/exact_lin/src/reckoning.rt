@@ -1,4 +1,5 @@
-//! Sums, products and comparisons of fractions as plain numbers: a numerator, and a denominator of at least 1.
+//! Sums, products and comparisons of fractions as plain numbers of 128 bits: a numerator, and a denominator of at
+//! least 1.
 //!
 //! Denominators are unsigned, so that no cast stands between a number and what is proved of it.
 
@@ -11,8 +12,11 @@ ghost use Rattle.exact_lin.specs.Reckoning.{wide_limit, Within, ProductFits, pro
 
 use std::cmp::Ordering;
 
-// The greatest common divisor in 64 bits, where a division is cheap.
-fn greatest_narrow(a: u64, b: u64) -> u64
+/// The largest part of a fraction of 128 bits.
+pub const WIDE_LIMIT: u128 = i128::MAX as u128;
+
+/// The greatest common divisor in 64 bits, where a division is cheap.
+pub fn greatest_narrow(a: u64, b: u64) -> u64
     ensures { result ≡ gcd a b }
 {
     let mut x = a;
@@ -25,16 +29,22 @@ fn greatest_narrow(a: u64, b: u64) -> u64
     x
 }
 
+// The largest number of 64 bits.
+const LARGEST_64: u128 = 18446744073709551615;
+
 // The same in 128 bits, as long as it needs them.
 fn greatest_wide(a: u128, b: u128) -> u128
     ensures { result ≡ gcd a b }
 {
     let mut x = a;
     let mut y = b;
-    while y > 18446744073709551615 {
+    while y > LARGEST_64 {
         let rest = x % y;
         x = y;
         y = rest;
+    }
+    if x <= LARGEST_64 {
+        return greatest_narrow(x as u64, y as u64) as u128;
     }
     if y == 0 {
         return x;
@@ -70,21 +80,19 @@ fn divided_up(a: u128, g: u128) -> u128
 }
 
 // A numerator times an unsigned factor, or None past the limit.
-fn multiply(limit: u128, a: i128, b: u128) -> Option<i128>
-    requires limit { limit ≤ wide_limit }
-    requires fits { b ≤ wide_limit }
-    ensures { SomeIff result (Within limit (a *ℤ pos b)) (a *ℤ pos b) }
+fn multiply(a: i128, b: u128) -> Option<i128>
+    requires { b ≤ wide_limit }
+    ensures { SomeIff result (Within wide_limit (a *ℤ pos b)) (a *ℤ pos b) }
 {
-    multiply_signed(limit, a, b as i128)
+    multiply_signed(a, b as i128)
 }
 
 // The product of two numerators, or None past the limit.
-fn multiply_signed(limit: u128, a: i128, b: i128) -> Option<i128>
-    requires { limit ≤ wide_limit }
-    ensures { SomeIff result (Within limit (a *ℤ b)) (a *ℤ b) }
+fn multiply_signed(a: i128, b: i128) -> Option<i128>
+    ensures { SomeIff result (Within wide_limit (a *ℤ b)) (a *ℤ b) }
 {
     match a.checked_mul(b) {
-        Some(product) => if product.unsigned_abs() <= limit {
+        Some(product) => if product.unsigned_abs() <= WIDE_LIMIT {
             Some(product)
         } else {
             None
@@ -94,12 +102,11 @@ fn multiply_signed(limit: u128, a: i128, b: i128) -> Option<i128>
 }
 
 // The product of two denominators, or None past the limit.
-fn multiply_up(limit: u128, a: u128, b: u128) -> Option<u128>
-    requires { limit ≤ wide_limit }
-    ensures { SomeIff result (a * b ≤ limit) (a * b) }
+fn multiply_up(a: u128, b: u128) -> Option<u128>
+    ensures { SomeIff result (a * b ≤ wide_limit) (a * b) }
 {
     match a.checked_mul(b) {
-        Some(product) => if product <= limit {
+        Some(product) => if product <= WIDE_LIMIT {
             Some(product)
         } else {
             None
@@ -109,12 +116,11 @@ fn multiply_up(limit: u128, a: u128, b: u128) -> Option<u128>
 }
 
 // The sum of two numerators, or None past the limit.
-fn plus(limit: u128, a: i128, b: i128) -> Option<i128>
-    requires { limit ≤ wide_limit }
-    ensures { SomeIff result (Within limit (a +ℤ b)) (a +ℤ b) }
+fn plus(a: i128, b: i128) -> Option<i128>
+    ensures { SomeIff result (Within wide_limit (a +ℤ b)) (a +ℤ b) }
 {
     match a.checked_add(b) {
-        Some(sum) => if sum.unsigned_abs() <= limit {
+        Some(sum) => if sum.unsigned_abs() <= WIDE_LIMIT {
             Some(sum)
         } else {
             None
@@ -124,36 +130,34 @@ fn plus(limit: u128, a: i128, b: i128) -> Option<i128>
 }
 
 /// a / b + c / d in lowest terms, or None where a part passes the limit.
-pub fn sum_of(limit: u128, a: i128, b: u128, c: i128, d: u128) -> Option<(i128, u128)>
-    requires limit { limit ≤ wide_limit }
+pub fn sum_of(a: i128, b: u128, c: i128, d: u128) -> Option<(i128, u128)>
     requires left { 0 < b }
     requires right { 0 < d }
     requires left_fits { b ≤ wide_limit }
     requires right_fits { d ≤ wide_limit }
-    ensures { SomeIff result (SumFits limit a b c d) (sum_numerator a b c d, sum_denominator a b c d) }
+    ensures { SomeIff result (SumFits wide_limit a b c d) (sum_numerator a b c d, sum_denominator a b c d) }
 {
     let g = greatest(b, d);
-    let left = multiply(limit, a, divided_up(d, g))?;
-    let right = multiply(limit, c, divided_up(b, g))?;
-    let sum = plus(limit, left, right)?;
+    let left = multiply(a, divided_up(d, g))?;
+    let right = multiply(c, divided_up(b, g))?;
+    let sum = plus(left, right)?;
     let h = greatest(sum.unsigned_abs(), g);
-    let denominator = multiply_up(limit, divided_up(b, g), divided_up(d, h))?;
+    let denominator = multiply_up(divided_up(b, g), divided_up(d, h))?;
     Some((divided(sum, h), denominator))
 }
 
 /// a / b times c / d in lowest terms, or None where a part passes the limit.
-pub fn product_of(limit: u128, a: i128, b: u128, c: i128, d: u128) -> Option<(i128, u128)>
-    requires limit { limit ≤ wide_limit }
+pub fn product_of(a: i128, b: u128, c: i128, d: u128) -> Option<(i128, u128)>
     requires left { 0 < b }
     requires right { 0 < d }
     requires left_fits { b ≤ wide_limit }
     requires right_fits { d ≤ wide_limit }
-    ensures { SomeIff result (ProductFits limit a b c d) (product_numerator a b c d, product_denominator a b c d) }
+    ensures { SomeIff result (ProductFits wide_limit a b c d) (product_numerator a b c d, product_denominator a b c d) }
 {
     let g = greatest(a.unsigned_abs(), d);
     let h = greatest(c.unsigned_abs(), b);
-    let numerator = multiply_signed(limit, divided(a, g), divided(c, h))?;
-    let denominator = multiply_up(limit, divided_up(b, h), divided_up(d, g))?;
+    let numerator = multiply_signed(divided(a, g), divided(c, h))?;
+    let denominator = multiply_up(divided_up(b, h), divided_up(d, g))?;
     Some((numerator, denominator))
 }
 

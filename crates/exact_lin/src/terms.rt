@@ -3,7 +3,9 @@
 ghost use Rattle.std.specs.Prelude.{◌≡◌, ℕ, ◌+◌, ◌<◌, ◌≤◌, List, [], ◌∷◌, ◌++◌, length, map, take, drop, OnOk, IfOk, OnErr, IsErrOf, MatchOption};
 ghost use Rattle.rational.specs.Rational.{ℚ, ◌+ℚ◌};
 ghost use Rattle.exact_lin.specs.Reckoning.{CanAdd, Fits, Reckons};
-ghost use Rattle.exact_lin.specs.Forms.{shown, AscendFrom, Covers, terms_at, values_of, coefficient, is_zero, with_term, increased, increased_by, place_in, IsGap, IsTerm, CanAddTerms, CanSumTerms};
+ghost use Rattle.std.specs.Result.{MatchResult};
+ghost use Rattle.exact_lin.specs.Merges.{CanMerge, KeepsBelow, CanJoin, joined_coefficient, behind, MergesTerm};
+ghost use Rattle.exact_lin.specs.Forms.{Terms, shown, AscendFrom, Covers, terms_at, values_of, coefficient, is_zero, with_term, increased, increased_by, place_in, IsGap, IsTerm, CanAddTerms, CanSumTerms};
 
 use crate::faults::{FormFault, NoMemory};
 use crate::ids::Id;
@@ -47,6 +49,68 @@ fn push_term<V: Id, S: Scalar>(terms: &mut Vec<(V, S)>, id: V, c: S) -> Result<(
     Ok(())
 }
 
+// Puts the terms of ids below this number at the end of the sum, and answers those from there on.
+fn keep_below<'a, V: Id, S: Scalar>(
+    sum: &mut Vec<(V, S)>,
+    terms: &'a [(V, S)],
+    number: u32,
+) -> Result<&'a [(V, S)], NoMemory>
+    ensures { IfOk result (λ rest. KeepsBelow number (shown V.number_of S.value terms.now) (shown V.number_of S.value sum.old.items) (shown V.number_of S.value sum.new.items) (shown V.number_of S.value rest.now)) }
+{
+    let mut rest = terms;
+    while let Some((first, later)) = rest.split_first() {
+        if first.0.number() >= number {
+            break;
+        }
+        push(sum, *first)?;
+        rest = later;
+    }
+    Ok(rest)
+}
+
+// The coefficient that c at the id v makes with the first of the terms, if that has the id, and the terms behind it.
+fn join_first<'a, V: Id, S: Scalar>(
+    terms: &'a [(V, S)],
+    v: V,
+    c: S,
+) -> Result<(S, &'a [(V, S)]), Wide>
+    ensures { MatchResult result
+        (λ joined. CanJoin S.limit (V.number_of v) (S.value c) (shown V.number_of S.value terms.now)
+        × S.value joined.0 ≡ joined_coefficient (V.number_of v) (S.value c) (shown V.number_of S.value terms.now)
+        × shown V.number_of S.value joined.1.now ≡ behind (V.number_of v) (shown V.number_of S.value terms.now))
+        (λ _. ¬ CanJoin S.limit (V.number_of v) (S.value c) (shown V.number_of S.value terms.now)) }
+{
+    match terms.split_first() {
+        Some((first, later)) => if first.0.number() == v.number() {
+            match first.1.add(c) {
+                Ok(sum) => Ok((sum, later)),
+                Err(wide) => Err(wide),
+            }
+        } else {
+            Ok((c, terms))
+        },
+        None => Ok((c, terms)),
+    }
+}
+
+// Puts all terms up to the id of the other form's next term at the end of the sum, that one's multiple added, and
+// answers what is left of them.
+fn merge_term<'a, V: Id, S: Scalar>(
+    sum: &mut Vec<(V, S)>,
+    left: &'a [(V, S)],
+    by: S,
+    term: (V, S),
+) -> Result<&'a [(V, S)], FormFault>
+    ensures merges { IfOk result (λ later. MergesTerm S.limit (S.value by) (shown V.number_of S.value left.now) (V.number_of term.0, S.value term.1) (shown V.number_of S.value sum.old.items) (shown V.number_of S.value sum.new.items) (shown V.number_of S.value later.now)) }
+    ensures wide { IsErrOf result FormFault.Wide → (us : Terms) → ¬ (CanMerge S.limit (S.value by) ((V.number_of term.0, S.value term.1) ∷ us) (shown V.number_of S.value left.now)) }
+{
+    let product = by.mul(term.1)?;
+    let rest = keep_below(sum, left, term.0.number())?;
+    let (coefficient, later) = join_first(rest, term.0, product)?;
+    push_term(sum, term.0, coefficient)?;
+    Ok(later)
+}
+
 // The terms of one form with a multiple of those of another added, both in the order of their ids.
 pub fn merge<V: Id, S: Scalar>(
     alloc: Global,
@@ -60,31 +124,15 @@ pub fn merge<V: Id, S: Scalar>(
     ensures terms { IfOk result (λ terms. shown V.number_of S.value terms.items ≡ increased_by (shown V.number_of S.value one.now) (S.value by) (shown V.number_of S.value other.now)) }
     ensures wide { IsErrOf result FormFault.Wide → ¬ (CanAddTerms S.limit (shown V.number_of S.value one.now) (S.value by) (shown V.number_of S.value other.now)) }
 {
-    let mut sum = Vec::new(alloc);
+    let mut sum = with_room(alloc, one.len().saturating_add(other.len()))?;
     let mut left = one;
     let mut right = other;
     while let Some((term, later)) = right.split_first() {
-        match left.split_first() {
-            Some((first, rest)) => match first.0.number().cmp(&term.0.number()) {
-                Ordering::Less => {
-                    push(&mut sum, *first)?;
-                    left = rest;
-                }
-                Ordering::Equal => {
-                    push_term(&mut sum, term.0, first.1.add(by.mul(term.1)?)?)?;
-                    left = rest;
-                    right = later;
-                }
-                Ordering::Greater => {
-                    push_term(&mut sum, term.0, by.mul(term.1)?)?;
-                    right = later;
-                }
-            },
-            None => {
-                push_term(&mut sum, term.0, by.mul(term.1)?)?;
-                right = later;
-            }
+        match merge_term(&mut sum, left, by, *term) {
+            Ok(rest) => left = rest,
+            Err(fault) => return Err(fault),
         }
+        right = later;
     }
     match sum.extend_from_slice(left) {
         Ok(()) => Ok(sum),
@@ -92,7 +140,15 @@ pub fn merge<V: Id, S: Scalar>(
     }
 }
 
-// How many terms, from the first on, have ids below this number.
+// An empty list with room for so many terms.
+fn with_room<V: Id, S: Scalar>(alloc: Global, count: usize) -> Result<Vec<(V, S)>, NoMemory>
+    ensures { IfOk result (λ list. list.items ≡ []) }
+{
+    let list = Vec::with_capacity(alloc, count)?;
+    Ok(list)
+}
+
+// How many terms, from the first on, have ids below this number, by halves.
 fn place_of<V: Id, S: Scalar>(terms: &[(V, S)], number: u32) -> usize
     requires { AscendFrom 0 (shown V.number_of S.value terms.now) }
     ensures { result ≡ place_in (shown V.number_of S.value terms.now) number }
@@ -103,14 +159,28 @@ fn place_of<V: Id, S: Scalar>(terms: &[(V, S)], number: u32) -> usize
             return terms.len();
         }
     }
-    let mut left = terms;
-    while let Some((first, rest)) = left.split_first() {
-        if first.0.number() >= number {
-            break;
+    let mut low = 0;
+    let mut high = terms.len();
+    while low < high {
+        let middle = low + (high - low) / 2;
+        if terms[middle].0.number() < number {
+            low = middle + 1;
+        } else {
+            high = middle;
         }
-        left = rest;
     }
-    terms.len() - left.len()
+    low
+}
+
+/// The coefficient of an id, 0 where it has no term.
+pub fn coefficient_of<V: Id, S: Scalar>(terms: &[(V, S)], v: V) -> S
+    requires { AscendFrom 0 (shown V.number_of S.value terms.now) }
+    ensures { S.value result ≡ coefficient (shown V.number_of S.value terms.now) (V.number_of v) }
+{
+    match coefficient_at(terms, v, place_of(terms, v.number())) {
+        Some(found) => found,
+        None => S::of_int(0),
+    }
 }
 
 // Adds to the term of an id, or makes or removes it.

@@ -1,7 +1,10 @@
+//! Rows of numbers and small forms, at both widths.
+
 ghost use Rattle.std.specs.Prelude.{◌≡◌, length, IfOk};
 ghost use Rattle.exact_lin.specs.Forms.{Covers};
 
 use super::*;
+use crate::reckoning_laws::places_have_one_answer;
 use std::alloc::Global;
 use std::cmp::Ordering;
 use std::process::Abort;
@@ -197,6 +200,42 @@ fn parts_reciprocals_and_widths(rt: HostRuntime) {
     );
 }
 
+// A sum x + 2 y, and how x compares with y.
+fn joined<S: Scalar>(rt: &impl Abort, x: S, y: S, sum: Option<S>, order: Ordering) {
+    assert!(rt;
+        add_product(x, S::of_int(2), y).ok() == sum && add_product(x, S::of_int(0), y) == Ok(x)
+    );
+    assert!(rt; is_below(x, y) == order.is_lt() && is_at_most(x, y) == order.is_le());
+    assert!(rt; is_negative(x) == is_positive(x.neg()));
+}
+
+#[test]
+fn sums_with_products(rt: HostRuntime) {
+    let (big, one) = (170141183460469231731687303715884105727, 1);
+    joined(
+        &rt,
+        wide(&rt, (1, 2)),
+        wide(&rt, (1, 3)),
+        Some(wide(&rt, (7, 6))),
+        Ordering::Greater,
+    );
+    joined(
+        &rt,
+        wide(&rt, (-1, 1)),
+        wide(&rt, (big, one)),
+        None,
+        Ordering::Less,
+    );
+    joined(
+        &rt,
+        narrow(&rt, (1, 2)),
+        narrow(&rt, (1, 2)),
+        Some(narrow(&rt, (3, 2))),
+        Ordering::Equal,
+    );
+    places_have_one_answer::<u8>();
+}
+
 #[test]
 fn ids_and_lists(rt: HostRuntime) -> Result<(), Fail> {
     let mut names: IdVec<FactId, u8> = IdVec::new(rt.alloc());
@@ -246,34 +285,59 @@ fn forms<S: Scalar>(
     requires near { length near.now ≡ 4 }
     requires far { length far.now ≡ 4 }
 {
-    let (zero, one, minus_two) = (S::of_int(0), S::of_int(1), S::of_int(-2));
     let form = half_and_two_terms(alloc, half, third)?;
     assert!(rt; form.constant() == half && form.terms().len() == 2);
     assert!(rt; term(&form, 0) == Some((0, S::of_int(2))) && term(&form, 1) == Some((3, third)));
+    assert!(rt;
+        form.coefficient(VarId::of(3)) == third && form.coefficient(VarId::of(2)) == S::of_int(0)
+    );
     assert!(rt; form.value_at(near) == Ok(half.add(S::of_int(3))?));
     assert!(rt; form.value_at(far) == Err(Wide));
 
+    scaled_forms(rt, &form, half, third, &other_form(alloc, third)?, big)
+}
+
+fn other_form<S: Scalar>(alloc: Global, third: S) -> Result<Form<VarId, S>, FormFault> {
+    let one = S::of_int(1);
     let mut other: Form<VarId, S> = Form::zero(alloc);
     other.add_term(VarId::of(0), one)?;
     other.add_term(VarId::of(1), one)?;
     other.add_term(VarId::of(4), third)?;
     other.add_constant(one)?;
-    let mut sum = form.copy()?;
-    sum.add_scaled(&other, minus_two)?;
-    assert!(rt; sum.constant() == half.add(minus_two)? && sum.terms().len() == 3);
-    assert!(rt;
-        term(&sum, 0) == Some((1, minus_two))
-            && term(&sum, 1) == Some((3, third))
-            && term(&sum, 2) == Some((4, third.mul(minus_two)?))
-    );
+    Ok(other)
+}
 
+fn scaled_forms<S: Scalar>(
+    rt: &impl Abort,
+    form: &Form<VarId, S>,
+    half: S,
+    third: S,
+    other: &Form<VarId, S>,
+    big: S,
+) -> Result<(), FormFault> {
+    let minus_two = S::of_int(-2);
+    let mut sum = form.copy()?;
+    sum.add_scaled(other, minus_two)?;
+    assert!(rt; sum.constant() == half.add(minus_two)? && sum.terms().len() == 3);
+    assert!(rt; term(&sum, 0) == Some((1, minus_two)) && term(&sum, 1) == Some((3, third)));
+    assert!(rt; term(&sum, 2) == Some((4, third.mul(minus_two)?)));
+    wide_forms(rt, sum, other, big)
+}
+
+fn wide_forms<S: Scalar>(
+    rt: &impl Abort,
+    form: Form<VarId, S>,
+    other: &Form<VarId, S>,
+    big: S,
+) -> Result<(), FormFault> {
+    let mut sum = form;
     let before = sum.copy()?;
-    assert!(rt; sum.add_scaled(&other, big) == Err(FormFault::Wide));
+    assert!(rt; sum.add_scaled(other, big) == Err(FormFault::Wide));
     assert!(rt; sum.add_term(VarId::of(1), big.neg()) == Err(FormFault::Wide));
     assert!(rt; sum.add_constant(big.neg()) == Err(Wide));
     assert!(rt; sum.terms() == before.terms() && sum.constant() == before.constant());
     sum.add_term(VarId::of(1), S::of_int(2))?;
-    assert!(rt; sum.terms().len() == 2 && sum.constant() != zero);
+    assert!(rt; sum.terms().len() == 2 && sum.constant() != S::of_int(0));
     Ok(())
 }
 

@@ -1,4 +1,4 @@
-use Rattle.std.proofs.Common.{◌+◌, length}
+use Rattle.std.proofs.Common.{length}
 use Rattle.exact_lin.specs.Forms.{shown}
 use Rattle.exact_lin.proofs.Merge.{Merging}
 use Rattle.exact_lin.proofs.terms.merge.Given as goal
@@ -8,4 +8,4 @@ invariant-loop-term g l = let number = g.V.Id.number_of in let value = g.S.Scala
     Merging g.S.Scalar.limit (value l.by) (shown number value l.fn.one) (shown number value l.fn.other) (shown number value l.sum.items) (shown number value l.left) (shown number value l.right)
 
 abbrev pub decreases-loop-term : goal.decreases-loop-term
-decreases-loop-term g l = length l.left + length l.right
+decreases-loop-term g l = length l.right
