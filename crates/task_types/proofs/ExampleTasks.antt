@@ -14,7 +14,7 @@ use Rattle.task_types.specs.declared.formulas.FactTree.TheVariants.{rolls-Is}
 use Rattle.task_types.specs.declared.parts.TaskParts.{TaskParts}
 use Rattle.task_types.specs.WellMade.{tree_fits, parts_fit, soft_fits}
 use Rattle.task_types.specs.Examples.{n, done}
-use Rattle.task_types.specs.ExampleTasks.{plain, TasksAreWellMade, LimitsAreReached, NamesAreRefused, SchemasAreRefused, FactsAndFluentsAreRefused, ActionsAreRefused, SnapsAreRefused, NumbersAreRefused, TimedStepsAreRefused, GoalsAreRefused, TermsAreRefused, PiecesAreRefused, MetricsAreRefused}
+use Rattle.task_types.specs.ExampleTasks.{plain, TasksAreWellMade, LimitsAreReached, NamesAreRefused, SchemasAreRefused, LongListsAreRefused, FactsAndFluentsAreRefused, ActionsAreRefused, SnapsAreRefused, NumbersAreRefused, TimedStepsAreRefused, GoalsAreRefused, TermsAreRefused, PiecesAreRefused, MetricsAreRefused}
 
 -- a test that fails doesn't pass
 pub no : false ≡ true → ⊥
@@ -84,13 +84,22 @@ schemas_are_refused = record {
   other_argument = λ w. no w.actions;
 }
 
+pub long_lists_are_refused : LongListsAreRefused
+unfolding gcd ratio whole cmp_ℚ
+long_lists_are_refused = record {
+  objects = λ many e w. no (rw e at w.objects);
+  schemas = λ many e w. no (rw e at w.schemas);
+  facts = λ many e w. no (rw e at w.facts);
+  fluents = λ many e w. no (rw e at w.fluents);
+  actions = λ many e w. no (rw e at w.actions);
+  snaps = λ many e w. no (rw e at w.snaps);
+}
+
 pub facts_and_fluents_are_refused : FactsAndFluentsAreRefused
 unfolding gcd ratio whole cmp_ℚ
 facts_and_fluents_are_refused = record {
   fact_of_no_object = λ w. no w.facts;
   fluent_of_no_object = λ w. no w.fluents;
-  too_many_facts = λ many e w. no (rw e at w.facts);
-  too_many_fluents = λ many e w. no (rw e at w.fluents);
 }
 
 pub actions_are_refused : ActionsAreRefused

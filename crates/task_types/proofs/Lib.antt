@@ -14,6 +14,7 @@ pub mod Whole
 pub mod ByNumber
 pub mod Pairs
 pub mod SetApart
+pub mod StepCounts
 pub mod Links
 pub mod Reasons
 pub mod Traces

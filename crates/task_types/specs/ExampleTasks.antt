@@ -170,12 +170,19 @@ pub record SchemasAreRefused : Type 0 where
   pub two_arguments : ¬ IsWellMade (with_action (record running { args = 0 ∷ 0 ∷ [] }))
   pub other_argument : ¬ IsWellMade (with_action (record running { args = 2 ∷ [] }))
 
--- facts and fluents with an argument out of range; more than 1,048,576 of them
+-- lists of more than 1,048,576 entries
+pub record LongListsAreRefused : Type 0 where
+  pub objects : (many : List (List ℕ)) → length many ≡ 1048577 → ¬ IsWellMade (with_objects many)
+  pub schemas : (many : List Schema) → length many ≡ 1048577 → ¬ IsWellMade (with_schemas many)
+  pub facts : (many : List Fact) → length many ≡ 1048577 → ¬ IsWellMade (record plain { facts = many })
+  pub fluents : (many : List Fluent) → length many ≡ 1048577 → ¬ IsWellMade (record plain { fluents = many })
+  pub actions : (many : List Action) → length many ≡ 1048577 → ¬ IsWellMade (record plain { actions = many })
+  pub snaps : (many : List Snap) → length many ≡ 1048577 → ¬ IsWellMade (record plain { snaps = many })
+
+-- facts and fluents with an argument out of range
 pub record FactsAndFluentsAreRefused : Type 0 where
   pub fact_of_no_object : ¬ IsWellMade (record plain { facts = record { name = codes "p"; args = 3 ∷ []; holds = false } ∷ [] })
   pub fluent_of_no_object : ¬ IsWellMade (record plain { fluents = record { name = codes "f"; args = 3 ∷ []; value = n 0 } ∷ [] })
-  pub too_many_facts : (many : List Fact) → length many ≡ 1048577 → ¬ IsWellMade (record plain { facts = many })
-  pub too_many_fluents : (many : List Fluent) → length many ≡ 1048577 → ¬ IsWellMade (record plain { fluents = many })
 
 -- of an action: a fact or fluent out of range, nine comparisons over all
 pub record ActionsAreRefused : Type 0 where

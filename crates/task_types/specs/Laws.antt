@@ -15,7 +15,7 @@ use Rattle.task_types.specs.declared.constraints.TrailKind.TheVariants.{Always, 
 use Rattle.task_types.specs.Tests.{◌≤?◌, ◌⇒◌}
 use Rattle.task_types.specs.State.{State, holds, tree_holds}
 use Rattle.task_types.specs.Trace.{Trace, Moment, at, met, first_state, first_moment}
-use Rattle.task_types.specs.Plan.{Plan, Step, IsFormed, snap_of, steps, happenings}
+use Rattle.task_types.specs.Plan.{Plan, Step, IsFormed, snap_of, steps, step_count, happenings}
 use Rattle.task_types.specs.Course.{count, time_of, state_before, state_after, before, after, steps_at, entries_of, effect_of, amount, increased, happen, rate, moved}
 use Rattle.task_types.specs.Clash.{clash}
 use Rattle.task_types.specs.Valid.{Valid, ArePositive, HoldsWithin, IsFirstReason}
@@ -23,7 +23,7 @@ use Rattle.task_types.specs.declared.orderings.Link.TheVariants.{Free, Weak, Apa
 use Rattle.task_types.specs.declared.tokens.Touch.{Touch}
 use Rattle.task_types.specs.declared.tokens.Touch.TheVariants.{Look, Mark, Bend}
 use Rattle.task_types.specs.Touch.{is_timed, touches_of}
-use Rattle.task_types.specs.Order.{Order, link, is_built, pair_link}
+use Rattle.task_types.specs.Order.{Order, IsClosedOrdering, plan_step_count, link, is_built, pair_link}
 use Rattle.task_types.specs.Agreement.{SameLines, are_linked, agree, link_holds, is_placed, time_at, plan_of}
 use Rattle.task_types.specs.Cost.{cost, late_value, piece_value}
 use Rattle.task_types.specs.Reckoned.{amount_reckoned, assigned_value, rate_reckoned, move_of, late_reckoned, piece_reckoned, cost_reckoned}
@@ -179,6 +179,11 @@ ClashesAreSetApart = (task : TaskParts) (i j : ℕ) → IsWellMade task → IsTr
 -- The timed plan of an ordering and its times is formed, whatever they are.
 abbrev pub TimedPlansAreFormed : Type 0
 TimedPlansAreFormed = (task : TaskParts) (o : Order) (times : List ℚ) → IsWellMade task → IsFormed task (plan_of task o times)
+
+-- The timed plan of a closed ordering has as many plan steps as the ordering, whatever the times are.
+abbrev pub TimedPlansHaveTheSteps : Type 0
+TimedPlansHaveTheSteps = (task : TaskParts) (o : Order) (times : List ℚ) → IsWellMade task → IsClosedOrdering task o
+    → length times ≡ length o.steps → step_count task (plan_of task o times) ≡ plan_step_count task o.steps
 
 -- ---- links by touches
 

@@ -5,9 +5,9 @@ ghost use Rattle.task_types.specs.ExampleCosts.{CostsComeOut};
 ghost use Rattle.task_types.specs.ExampleOrderings.{BuiltOrderingsComeOut, ClosedOrderingsComeOut, TimesComeOut, BlockedOrderingsComeOut};
 ghost use Rattle.task_types.specs.ExamplePlans.{PlansAreValid, PlansAreRefused};
 ghost use Rattle.task_types.specs.ExampleStates.{StatesComeOut};
-ghost use Rattle.task_types.specs.ExampleTasks.{TasksAreWellMade, LimitsAreReached, NamesAreRefused, SchemasAreRefused, FactsAndFluentsAreRefused, ActionsAreRefused, SnapsAreRefused, NumbersAreRefused, TimedStepsAreRefused, GoalsAreRefused, TermsAreRefused, PiecesAreRefused, MetricsAreRefused};
+ghost use Rattle.task_types.specs.ExampleTasks.{TasksAreWellMade, LimitsAreReached, NamesAreRefused, SchemasAreRefused, LongListsAreRefused, FactsAndFluentsAreRefused, ActionsAreRefused, SnapsAreRefused, NumbersAreRefused, TimedStepsAreRefused, GoalsAreRefused, TermsAreRefused, PiecesAreRefused, MetricsAreRefused};
 ghost use Rattle.task_types.specs.ExampleTouches.{TouchesComeOut, TokensComeOut};
-ghost use Rattle.task_types.specs.Laws.{OneListOfHappenings, SegmentsGoByTheirEnds, ValidOrOneReason, BothWaysRound, LinesInAnyOrder, ConstraintsAlongTheTrace, ReckoningsEndAtTheValue, LinksByTouches, SortingKeepsLinks, TimedPlansAreFormed, StatesGoByNumber, AgreementGoesByPairs, ClashesAreSetApart, FirstStatesHaveTheFirstMoments};
+ghost use Rattle.task_types.specs.Laws.{OneListOfHappenings, SegmentsGoByTheirEnds, ValidOrOneReason, BothWaysRound, LinesInAnyOrder, ConstraintsAlongTheTrace, ReckoningsEndAtTheValue, LinksByTouches, SortingKeepsLinks, TimedPlansAreFormed, TimedPlansHaveTheSteps, StatesGoByNumber, AgreementGoesByPairs, ClashesAreSetApart, FirstStatesHaveTheFirstMoments};
 
 /// The happenings of a plan are the one ascending list of the times of its steps.
 pub fn one_list_of_happenings()
@@ -74,6 +74,11 @@ pub fn timed_plans_are_formed()
     ensures { TimedPlansAreFormed }
 {}
 
+/// The timed plan of a closed ordering has as many plan steps as the ordering.
+pub fn timed_plans_have_the_steps()
+    ensures { TimedPlansHaveTheSteps }
+{}
+
 /// The link of two snap actions can be read off their touches.
 pub fn links_by_touches()
     ensures { LinksByTouches }
@@ -130,6 +135,7 @@ pub fn well_made_tasks_pass()
 pub fn broken_tasks_are_refused()
     ensures names { NamesAreRefused }
     ensures schemas { SchemasAreRefused }
+    ensures long_lists { LongListsAreRefused }
     ensures facts { FactsAndFluentsAreRefused }
     ensures actions { ActionsAreRefused }
     ensures snaps { SnapsAreRefused }
