@@ -1,3 +1,4 @@
+pub mod PairLoops
 pub mod PartialSums
 pub mod Meaning
 pub mod Columns

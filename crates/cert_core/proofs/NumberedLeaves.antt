@@ -8,7 +8,8 @@ use Rattle.cert_core.specs.declared.tree.TreeFault.{TreeFault}
 use Rattle.cert_core.specs.declared.tree.DualTree.{DualTree}
 use Rattle.cert_core.specs.Soft.{SoftProgram, IsLawful}
 use Rattle.basics.specs.Duties.{Duty, AllMet, IsFirstUnmet, Judges}
-use Rattle.cert_core.specs.Trees.{Leaf, Misfit, leaf_duties, leaves_duties, between_duties, numbered_duties, at_leaf, top, leaves_of, ProvesTree, AreLeavesReckoned, FailsAtFirstLeaf, EachLeafPasses, PassesWithItsLeaves}
+use Rattle.cert_core.specs.Laws.{FailsAtFirstLeaf, EachLeafPasses, PassesWithItsLeaves}
+use Rattle.cert_core.specs.Trees.{Leaf, Misfit, leaf_duties, leaves_duties, between_duties, numbered_duties, at_leaf, top, leaves_of, ProvesTree, AreLeavesReckoned}
 use Rattle.basics.proofs.Duties.{AllMet-append, AllMet-left, AllMet-right, AllMet-no_first, IsFirstUnmet-left, IsFirstUnmet-right}
 use Rattle.cert_core.proofs.TreeParts.{IsFirstUnmet-at_leaf, AllMet-at_leaf, at_leaf-AllMet, at_leaf-IsFirstUnmet, between-asked, between-passed, between-past}
 use Rattle.cert_core.proofs.Grounded.{IsGrounded, leaves-grounded, leaves-exact, exact-leaves, undecided-AreDecisions}

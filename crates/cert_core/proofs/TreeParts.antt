@@ -20,10 +20,8 @@ use Rattle.cert_core.specs.LeafWalks.{JudgesLeaves}
 use Rattle.basics.proofs.Duties.{ComesDownTo, ComesDownTo-itself, ComesDownTo-part, ComesDownTo-within, AllMet-append, IsFirstUnmet-left}
 use Rattle.basics.proofs.Lists.{each_append}
 use Rattle.cert_core.proofs.Leaves.{leaves_of-split, leaves_of-none, leaves_of-at_least, each_tree}
+use Rattle.cert_core.proofs.PairLoops.{drop_item}
 use Rattle.cert_core.proofs.Counting.{leaf_count-no_child, leaf_count-children, leaf_count-none, leaf_count-at_least}
-
-pub drop_item : {X : Type 0} (xs : List X) (n : ℕ) (x : X) → n < length xs → x ≡ get_or xs n x → drop n xs ≡ x ∷ drop (n + 1) xs
-drop_item xs n x h e = drop-cons xs n x h ∙ ap (λ y. y ∷ drop (suc n) xs) (sym e) ∙ (let next : suc n ≡ n + 1 = omega arith in ap (λ (k : ℕ). x ∷ drop k xs) next)
 
 -- ---- a leaf's duties, each named with the leaf's number
 pub AllMet-at_leaf : (n : ℕ) (ds : List (Duty (CertFault ℕ ℕ))) → AllMet ds → AllMet (map (at_leaf n) ds)

@@ -3,5 +3,6 @@ pub mod Checks
 pub mod Faults
 pub mod Soft
 pub mod Trees
+pub mod Laws
 pub mod LeafWalks
 pub mod Listed

@@ -20,7 +20,8 @@ fn check_ranges<R: Id, V: Id, S: Scalar, P: Rows<R, V, S>>(
     pairs: &[(R, S)],
 ) -> Result<(), CertFault<R, V>>
     ensures { Judges result (fault_of R.number_of V.number_of)
-        (range_duties (length (P.program program.now).rows) 0 (multipliers_of R.number_of S.value pairs.now)) }
+        (range_duties (length (P.program program.now).rows) 0
+        (multipliers_of R.number_of S.value pairs.now)) }
 {
     let count = program.row_count();
     let mut least = 0;
@@ -36,7 +37,8 @@ fn check_ranges<R: Id, V: Id, S: Scalar, P: Rows<R, V, S>>(
 
 // No multiplier is below 0.
 fn check_signs<R: Id, V: Id, S: Scalar>(pairs: &[(R, S)]) -> Result<(), CertFault<R, V>>
-    ensures { Judges result (fault_of R.number_of V.number_of) (sign_duties (multipliers_of R.number_of S.value pairs.now)) }
+    ensures { Judges result (fault_of R.number_of V.number_of) (sign_duties
+        (multipliers_of R.number_of S.value pairs.now)) }
 {
     for pair in pairs {
         if is_negative(pair.1) {
@@ -53,7 +55,8 @@ fn column_start_of<R: Id, V: Id, S: Scalar, P: Rows<R, V, S>>(
     v: V,
 ) -> S
     requires { V.number_of v < length (P.program program.now).costs }
-    ensures { S.value result ≡ column_start (P.program program.now) (claim_of S.value claim) (V.number_of v) }
+    ensures { S.value result
+        ≡ column_start (P.program program.now) (claim_of S.value claim) (V.number_of v) }
 {
     match claim {
         Claim::Empty => S::of_int(0),
@@ -68,7 +71,8 @@ fn check_column<R: Id, V: Id, S: Scalar, P: Rows<R, V, S>>(
     claim: Claim<S>,
     v: V,
 ) -> Result<(), CertFault<R, V>>
-    requires rows { AllByRecursion (λ y. R.number_of y.0 < length (P.program program.now).rows) pairs.now }
+    requires rows { AllByRecursion (λ y. R.number_of y.0 < length
+        (P.program program.now).rows) pairs.now }
     requires variable { V.number_of v < length (P.program program.now).costs }
     ensures { Judges result (fault_of R.number_of V.number_of)
         (column_duties S.limit (P.program program.now) (claim_of S.value claim)
@@ -90,7 +94,8 @@ fn check_columns<R: Id, V: Id, S: Scalar, P: Rows<R, V, S>>(
     pairs: &[(R, S)],
     claim: Claim<S>,
 ) -> Result<(), CertFault<R, V>>
-    requires { AllByRecursion (λ y. R.number_of y.0 < length (P.program program.now).rows) pairs.now }
+    requires { AllByRecursion (λ y. R.number_of y.0 < length
+        (P.program program.now).rows) pairs.now }
     ensures { Judges result (fault_of R.number_of V.number_of)
         (columns_duties S.limit (P.program program.now) (claim_of S.value claim)
         (multipliers_of R.number_of S.value pairs.now) 0 (length (P.program program.now).costs)) }
@@ -110,7 +115,8 @@ fn check_constant<R: Id, V: Id, S: Scalar, P: Rows<R, V, S>>(
     pairs: &[(R, S)],
     claim: Claim<S>,
 ) -> Result<(), CertFault<R, V>>
-    requires { AllByRecursion (λ y. R.number_of y.0 < length (P.program program.now).rows) pairs.now }
+    requires { AllByRecursion (λ y. R.number_of y.0 < length
+        (P.program program.now).rows) pairs.now }
     ensures { Judges result (fault_of R.number_of V.number_of)
         (constant_duties S.limit (P.program program.now) (claim_of S.value claim)
         (multipliers_of R.number_of S.value pairs.now)) }
@@ -162,10 +168,13 @@ pub fn check_farkas<R: Id, V: Id, S: Scalar, P: Rows<R, V, S>>(
     program: &P,
     row: &FarkasRow<R, S>,
 ) -> Result<(), CertFault<R, V>>
-    ensures ok { IsOk result ↔ (ProvesEmpty (P.program program.now) (multipliers_of R.number_of S.value row.now)
-        × AreReckoned S.limit (P.program program.now) Claim.Empty (multipliers_of R.number_of S.value row.now)) }
+    ensures ok { IsOk result
+        ↔ (ProvesEmpty (P.program program.now) (multipliers_of R.number_of S.value row.now)
+        × AreReckoned S.limit (P.program program.now) Claim.Empty
+        (multipliers_of R.number_of S.value row.now)) }
     ensures first_fault { IfErr result (λ fault. IsFirstUnmet
-        (duties S.limit (P.program program.now) Claim.Empty (multipliers_of R.number_of S.value row.now))
+        (duties S.limit (P.program program.now) Claim.Empty
+        (multipliers_of R.number_of S.value row.now))
         (fault_of R.number_of V.number_of fault)) }
     ensures no_solution { OnOk result (HasNoSolution (P.program program.now)) }
 {
@@ -180,10 +189,14 @@ pub fn check_dual<R: Id, V: Id, S: Scalar, P: Rows<R, V, S>>(
     row: &DualRow<R, S>,
     cost: S,
 ) -> Result<(), CertFault<R, V>>
-    ensures ok { IsOk result ↔ (ProvesCost (P.program program.now) (multipliers_of R.number_of S.value row.now) (S.value cost)
-        × AreReckoned S.limit (P.program program.now) (Claim.AtLeast (S.value cost)) (multipliers_of R.number_of S.value row.now)) }
+    ensures ok { IsOk result
+        ↔ (ProvesCost (P.program program.now) (multipliers_of R.number_of S.value row.now)
+        (S.value cost)
+        × AreReckoned S.limit (P.program program.now) (Claim.AtLeast (S.value cost))
+        (multipliers_of R.number_of S.value row.now)) }
     ensures first_fault { IfErr result (λ fault. IsFirstUnmet
-        (duties S.limit (P.program program.now) (Claim.AtLeast (S.value cost)) (multipliers_of R.number_of S.value row.now))
+        (duties S.limit (P.program program.now) (Claim.AtLeast (S.value cost))
+        (multipliers_of R.number_of S.value row.now))
         (fault_of R.number_of V.number_of fault)) }
     ensures bound { OnOk result (CostsAtLeast (P.program program.now) (S.value cost)) }
 {

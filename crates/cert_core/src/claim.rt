@@ -1,3 +1,5 @@
+//! What a certificate claims of a program.
+
 /// What a certificate claims of a program.
 #[derive(Clone, Copy, Drop)]
 pub enum Claim<S> {

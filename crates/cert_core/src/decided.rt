@@ -1,3 +1,5 @@
+//! A program under decisions, read entry by entry.
+
 ghost use Rattle.std.specs.Prelude.{◌≡◌, IfOk, IsOk, ◌↔◌};
 ghost use Rattle.cert_core.specs.Soft.{AreDecisions, program_under};
 
@@ -57,7 +59,9 @@ pub fn under<'a, T: Id, R: Id, V: Id, S: Scalar, P: SoftRows<T, R, V, S>>(
 ) -> Result<Decided<'a, T, R, V, S, P>, Wide>
     requires { AreDecisions (P.soft soft.now) made.now }
     ensures defined { IsOk result ↔ (P.soft soft.now).CanReckonBase made.now }
-    ensures program { IfOk result (λ d. ⟦<Decided<'a, T, R, V, S, P> as Rows<R, V, S>>⟧.program d ≡ program_under (P.soft soft.now) made.now) }
+    ensures program { IfOk result
+        (λ d. ⟦<Decided<'a, T, R, V, S, P> as Rows<R, V, S>>⟧.program d
+        ≡ program_under (P.soft soft.now) made.now) }
 {
     match soft.base(made) {
         Ok(base) => Ok(Decided {

@@ -1,6 +1,6 @@
 //! Laws of the checks: each function does nothing, and claims a law by its contract.
 
-ghost use Rattle.cert_core.specs.Trees.{FailsAtFirstLeaf, PassesWithItsLeaves};
+ghost use Rattle.cert_core.specs.Laws.{FailsAtFirstLeaf, PassesWithItsLeaves};
 
 use crate::soft::SoftRows;
 use crate::tree::DualTree;
@@ -17,5 +17,6 @@ pub fn tree_passes_with_its_leaves<T: Id, R: Id, V: Id, S: Scalar, P: SoftRows<T
     _soft: &P,
     _tree: &DualTree<T, R, S>,
 )
-    ensures { PassesWithItsLeaves T.number_of R.number_of S.value S.limit (P.soft _soft.now) _tree.now }
+    ensures { PassesWithItsLeaves T.number_of R.number_of S.value S.limit
+        (P.soft _soft.now) _tree.now }
 {}

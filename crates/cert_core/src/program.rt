@@ -1,3 +1,5 @@
+//! Linear programs, read entry by entry, and why a certificate doesn't prove its claim.
+
 ghost use Rattle.std.specs.Prelude.{◌≡◌, ◌<◌, length};
 ghost use Rattle.cert_core.specs.Programs.{Program, IsEven, entry_of, bound_of, cost_of};
 

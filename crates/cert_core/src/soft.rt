@@ -1,3 +1,5 @@
+//! Linear programs with terms to decide.
+
 ghost use Rattle.std.specs.Prelude.{◌≡◌, ◌<◌, ◌↔◌, length, map, IsTrue};
 ghost use Rattle.std.specs.Result.{MatchResult};
 ghost use Rattle.exact_lin.specs.Reckoning.{Reckons};
@@ -49,13 +51,15 @@ pub trait SoftRows<T: Id, R: Id, V: Id, S: Scalar> {
         requires made { AreDecisions (soft self.now) made.now }
         requires row { R.number_of r < length (program_under (soft self.now) made.now).rows }
         requires variable { V.number_of v < length (soft self.now).costs }
-        ensures { S.value result ≡ entry_of (program_under (soft self.now) made.now) (R.number_of r) (V.number_of v) };
+        ensures { S.value result
+            ≡ entry_of (program_under (soft self.now) made.now) (R.number_of r) (V.number_of v) };
 
     /// The bound of a row.
     fn bound(&self, made: &[Option<Way>], r: R) -> S
         requires made { AreDecisions (soft self.now) made.now }
         requires row { R.number_of r < length (program_under (soft self.now) made.now).rows }
-        ensures { S.value result ≡ bound_of (program_under (soft self.now) made.now) (R.number_of r) };
+        ensures { S.value result
+            ≡ bound_of (program_under (soft self.now) made.now) (R.number_of r) };
 
     /// The cost's factor of a variable.
     fn cost(&self, v: V) -> S
@@ -65,7 +69,8 @@ pub trait SoftRows<T: Id, R: Id, V: Id, S: Scalar> {
     /// The cost's constant with the costs of the decisions added, or `Wide` where that sum is not defined.
     fn base(&self, made: &[Option<Way>]) -> Result<S, Wide>
         requires { AreDecisions (soft self.now) made.now }
-        ensures { Reckons S.value result ((soft self.now).CanReckonBase made.now) ((soft self.now).base made.now) };
+        ensures { Reckons S.value result ((soft self.now).CanReckonBase made.now)
+            ((soft self.now).base made.now) };
 
     /// Whether the term costs nothing at the point, or `Wide` where the reckoning that tells so is not defined.
     fn free_at(&self, point: &[S], t: T) -> Result<bool, Wide>

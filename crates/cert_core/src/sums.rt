@@ -18,9 +18,11 @@ pub(crate) fn column_sum<R: Id, V: Id, S: Scalar, P: Rows<R, V, S>>(
     v: V,
     start: S,
 ) -> Result<S, Wide>
-    requires rows { AllByRecursion (λ y. R.number_of y.0 < length (P.program program.now).rows) pairs.now }
+    requires rows { AllByRecursion (λ y. R.number_of y.0 < length
+        (P.program program.now).rows) pairs.now }
     requires variable { V.number_of v < length (P.program program.now).costs }
-    ensures { let terms = column_terms (P.program program.now) (multipliers_of R.number_of S.value pairs.now) (V.number_of v) in
+    ensures { let terms = column_terms (P.program program.now)
+        (multipliers_of R.number_of S.value pairs.now) (V.number_of v) in
         Reckons S.value result (AreDefined S.limit (product_sums (S.value start) terms))
         (sum_of_products (S.value start) terms) }
 {
@@ -51,7 +53,8 @@ fn signed_bound_of<R: Id, V: Id, S: Scalar, P: Rows<R, V, S>>(
     r: R,
 ) -> S
     requires { R.number_of r < length (P.program program.now).rows }
-    ensures { S.value result ≡ signed_bound (P.program program.now) (claim_of S.value claim) (R.number_of r) }
+    ensures { S.value result
+        ≡ signed_bound (P.program program.now) (claim_of S.value claim) (R.number_of r) }
 {
     match claim {
         Claim::Empty => program.bound(r),
@@ -65,10 +68,13 @@ pub(crate) fn constant_sum<R: Id, V: Id, S: Scalar, P: Rows<R, V, S>>(
     pairs: &[(R, S)],
     claim: Claim<S>,
 ) -> Result<S, Wide>
-    requires { AllByRecursion (λ y. R.number_of y.0 < length (P.program program.now).rows) pairs.now }
+    requires { AllByRecursion (λ y. R.number_of y.0 < length
+        (P.program program.now).rows) pairs.now }
     ensures { let start = constant_start (P.program program.now) (claim_of S.value claim) in
-        let terms = constant_terms (P.program program.now) (claim_of S.value claim) (multipliers_of R.number_of S.value pairs.now) in
-        Reckons S.value result (AreDefined S.limit (product_sums start terms)) (sum_of_products start terms) }
+        let terms = constant_terms (P.program program.now) (claim_of S.value claim)
+        (multipliers_of R.number_of S.value pairs.now) in
+        Reckons S.value result (AreDefined S.limit (product_sums start terms))
+        (sum_of_products start terms) }
 {
     let mut sum = constant_start_of(program, claim);
     for pair in pairs {

@@ -1,3 +1,5 @@
+//! Certificates and trees over one variable.
+
 ghost use Rattle.std.specs.Prelude.{◌≡◌, ◌<◌, ◌^◌, length};
 
 use crate::{

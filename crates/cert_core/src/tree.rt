@@ -1,3 +1,5 @@
+//! Trees of decisions whose leaves are certificates.
+
 ghost use Rattle.std.specs.Prelude.{◌<◌, ◌^◌};
 ghost use Rattle.std.specs.List.{sum_by};
 ghost use Rattle.std.specs.Option.{SomeIff};

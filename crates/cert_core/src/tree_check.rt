@@ -31,11 +31,14 @@ pub fn check_tree<T: Id, R: Id, V: Id, S: Scalar, P: SoftRows<T, R, V, S>>(
 ) -> Result<(), TreeFault<R, V>>
     requires undecided { AreUndecided (P.soft soft.now) made.old }
     requires countable { leaf_count tree.now < 2 ^ 32 }
-    ensures ok { let leaves = leaves_of T.number_of R.number_of S.value (P.soft soft.now) (S.value cost) tree.now (top made.old) in
-        IsOk result ↔ (ProvesTree (P.soft soft.now) leaves × AreLeavesReckoned S.limit (P.soft soft.now) leaves) }
+    ensures ok { let leaves = leaves_of T.number_of R.number_of S.value (P.soft soft.now)
+        (S.value cost) tree.now (top made.old) in
+        IsOk result ↔ (ProvesTree (P.soft soft.now) leaves
+        × AreLeavesReckoned S.limit (P.soft soft.now) leaves) }
     ensures first_fault { IfErr result (λ fault. IsFirstUnmet
         (leaves_duties S.limit (P.soft soft.now) 1
-        (leaves_of T.number_of R.number_of S.value (P.soft soft.now) (S.value cost) tree.now (top made.old)))
+        (leaves_of T.number_of R.number_of S.value (P.soft soft.now) (S.value cost) tree.now
+        (top made.old)))
         (tree_fault_of R.number_of V.number_of fault)) }
     ensures always_costs { OnOk result (AlwaysCosts (P.soft soft.now) (S.value cost)) }
     ensures made { made.new ≡ made.old }
@@ -114,7 +117,11 @@ fn check_here<T: Id, R: Id, V: Id, S: Scalar, P: SoftRows<T, R, V, S>>(
     requires { AreDecisions (P.soft soft.now) made.now }
     ensures { Judges result (fault_of R.number_of V.number_of)
         (leaf_duties S.limit (P.soft soft.now)
-        (record { made = made.now; here = Shows (claim_of S.value claim) (multipliers_of R.number_of S.value pairs.now) })) }
+        (record {
+          made = made.now;
+          here = Shows (claim_of S.value claim)
+              (multipliers_of R.number_of S.value pairs.now);
+        })) }
 {
     match under(soft, made) {
         Ok(program) => check(&program, pairs, claim),
@@ -155,7 +162,11 @@ fn check_next<T: Id, R: Id, V: Id, S: Scalar, P: SoftRows<T, R, V, S>>(
     requires inside { done < asked.to }
     ensures { JudgesLeaves result (tree_fault_of R.number_of V.number_of) S.limit
         (P.soft soft.now) asked.from asked.to done 1
-        (record { made = made.now; here = Shows (claim_of S.value claim) (multipliers_of R.number_of S.value pairs.now) } ∷ []) }
+        (record {
+          made = made.now;
+          here = Shows (claim_of S.value claim)
+              (multipliers_of R.number_of S.value pairs.now);
+        } ∷ []) }
 {
     if done + 1 < asked.from {
         return Ok(done + 1);
@@ -246,7 +257,8 @@ fn check_children<T: Id, R: Id, V: Id, S: Scalar, P: SoftRows<T, R, V, S>>(
     done: u32,
 ) -> Result<u32, TreeFault<R, V>>
     requires decisions { AreDecisions (P.soft soft.now) made.old }
-    requires fits { IsTrue (is_fit (P.soft soft.now) made.old (T.number_of t) (length children.now)) }
+    requires fits { IsTrue (is_fit (P.soft soft.now) made.old (T.number_of t)
+        (length children.now)) }
     requires countable { done + sum_by leaf_count children.now < 2 ^ 32 }
     requires ordered { asked.from ≤ asked.to }
     requires inside { done < asked.to }
@@ -254,7 +266,8 @@ fn check_children<T: Id, R: Id, V: Id, S: Scalar, P: SoftRows<T, R, V, S>>(
     ensures judged { JudgesLeaves result (tree_fault_of R.number_of V.number_of) S.limit
         (P.soft soft.now) asked.from asked.to done (sum_by leaf_count children.now)
         (child_leaves None made.old (T.number_of t) 0
-        (map (leaves_of T.number_of R.number_of S.value (P.soft soft.now) (S.value asked.cost)) children.now)) }
+        (map (leaves_of T.number_of R.number_of S.value (P.soft soft.now)
+        (S.value asked.cost)) children.now)) }
 {
     let mut done = done;
     let mut way = 0;

@@ -1,7 +1,7 @@
 -- Private: the programs of the tests, over two variables, read off a list of rows or off one bound.
 use Rattle.std.specs.Prelude.{◌≡◌, List, [], ◌∷◌, map, length, ℤ, pos, negsuc, refl}
 use Rattle.std.specs.List.{AllByRecursion}
-use Rattle.rational.specs.Rational.{whole, zeroℚ}
+use Rattle.rational.specs.Rational.{ℚ, whole, zeroℚ}
 use Rattle.rational.specs.Rows.{Row}
 use Rattle.cert_core.specs.Programs.{Program, IsEven}
 

@@ -43,9 +43,12 @@ fn reckon_others<S: Scalar>(
     ensures cost { length cost.new ≡ length cost.old }
     ensures cases { MatchResult result
         (λ _. CanReplaceAll S.limit (dictionary_of S.value t.now) (map S.value solution.now) i j
-        × AreReady (map S.value solution.now) i j (shown_rows S.value t.now.rows.items) (shown_rows S.value spare.new)
-        × map S.value cost.new ≡ replaced (map S.value solution.now) j (dictionary_of S.value t.now).cost)
-        (λ _. ¬ CanReplaceAll S.limit (dictionary_of S.value t.now) (map S.value solution.now) i j) }
+        × AreReady (map S.value solution.now) i j (shown_rows S.value t.now.rows.items)
+        (shown_rows S.value spare.new)
+        × map S.value cost.new
+        ≡ replaced (map S.value solution.now) j (dictionary_of S.value t.now).cost)
+        (λ _. ¬ CanReplaceAll S.limit (dictionary_of S.value t.now)
+        (map S.value solution.now) i j) }
 {
     match reckon_rows(&t.rows, solution, i, j, spare) {
         Ok(()) => replace_row(&t.cost, solution, j, cost),

@@ -17,9 +17,11 @@ fn scale_row<S: Scalar>(row: &[S], y: S, out: &mut [S]) -> Result<(), Wide>
     requires { length out.old ≡ length row.now }
     ensures length { length out.new ≡ length row.now }
     ensures cases { MatchResult result
-        (λ _. ((k : ℕ) → k < length row.now → CanMultiply S.limit (S.value y) (at (map S.value row.now) k))
+        (λ _. ((k : ℕ) → k < length row.now
+        → CanMultiply S.limit (S.value y) (at (map S.value row.now) k))
         × map S.value out.new ≡ scale_list (S.value y) (map S.value row.now))
-        (λ _. ¬ ((k : ℕ) → k < length row.now → CanMultiply S.limit (S.value y) (at (map S.value row.now) k))) }
+        (λ _. ¬ ((k : ℕ) → k < length row.now
+        → CanMultiply S.limit (S.value y) (at (map S.value row.now) k))) }
 {
     for k in 0..row.len() {
         match y.mul(row[k]) {
@@ -37,7 +39,8 @@ pub(crate) fn solve_row<S: Scalar>(row: &[S], j: usize, out: &mut [S]) -> Result
     requires pivot { at (map S.value row.now) j ≢ zeroℚ }
     ensures length { length out.new ≡ length row.now }
     ensures cases { MatchResult result
-        (λ _. CanSolve S.limit (map S.value row.now) j × map S.value out.new ≡ solved (map S.value row.now) j)
+        (λ _. CanSolve S.limit (map S.value row.now) j × map S.value out.new
+        ≡ solved (map S.value row.now) j)
         (λ _. ¬ CanSolve S.limit (map S.value row.now) j) }
 {
     let reciprocal = row[j].recip();
@@ -87,7 +90,8 @@ pub(crate) fn replace_row<S: Scalar>(
 // Whether the row holds the variable of column j.
 fn holds<S: Scalar>(row: &[S], j: usize) -> bool
     requires { j < length row.now }
-    ensures { MatchBool result (¬ (at (map S.value row.now) j ≡ zeroℚ)) (at (map S.value row.now) j ≡ zeroℚ) }
+    ensures { MatchBool result (¬ (at (map S.value row.now) j
+        ≡ zeroℚ)) (at (map S.value row.now) j ≡ zeroℚ) }
 {
     match row[j].sign() {
         Sign::Zero => false,
@@ -110,7 +114,8 @@ fn reckon_row<S: Scalar>(
     requires fits { RowFits S.limit (map S.value row.now) }
     ensures length { length out.new ≡ length row.now }
     ensures cases { MatchResult result
-        (λ _. ¬ IsTrue leaves → CanReplace S.limit (map S.value solution.now) j (map S.value row.now)
+        (λ _. ¬ IsTrue leaves
+        → CanReplace S.limit (map S.value solution.now) j (map S.value row.now)
         × (¬ (at (map S.value row.now) j ≡ zeroℚ)
         → map S.value out.new ≡ replaced (map S.value solution.now) j (map S.value row.now)))
         (λ _. ¬ IsTrue leaves
@@ -150,8 +155,10 @@ pub(crate) fn reckon_rows<S: Scalar>(
     ensures spare_even { HaveWidth (length solution.now) spare.new }
     ensures cases { MatchResult result
         (λ _. CanReplaceOthers S.limit (map S.value solution.now) i j (shown_rows S.value rows.now)
-        × AreReady (map S.value solution.now) i j (shown_rows S.value rows.now) (shown_rows S.value spare.new))
-        (λ _. ¬ CanReplaceOthers S.limit (map S.value solution.now) i j (shown_rows S.value rows.now)) }
+        × AreReady (map S.value solution.now) i j (shown_rows S.value rows.now)
+        (shown_rows S.value spare.new))
+        (λ _. ¬ CanReplaceOthers S.limit (map S.value solution.now) i j
+        (shown_rows S.value rows.now)) }
 {
     let last = spare.len() - 1;
     for k in 0..rows.len() {
@@ -180,7 +187,8 @@ fn rewrite_row<S: Scalar>(
     requires defined { ¬ IsTrue leaves
         → CanReplace S.limit (map S.value solution.now) j (map S.value row.old.items) }
     requires ready { IsTrue ready → ¬ IsTrue leaves → ¬ (at (map S.value row.old.items) j ≡ zeroℚ)
-        → map S.value spare.old.items ≡ replaced (map S.value solution.now) j (map S.value row.old.items) }
+        → map S.value spare.old.items
+        ≡ replaced (map S.value solution.now) j (map S.value row.old.items) }
     ensures length { length row.new.items ≡ length solution.now }
     ensures spare_length { length spare.new.items ≡ length solution.now }
     ensures row { map S.value row.new.items ≡ (if leaves then map S.value solution.now
@@ -212,8 +220,10 @@ pub(crate) fn rewrite_rows<S: Scalar>(
     requires even { HaveWidth (length solution.now) rows.old }
     requires some { 0 < length spare.old }
     requires spare_even { HaveWidth (length solution.now) spare.old }
-    requires defined { CanReplaceOthers S.limit (map S.value solution.now) i j (shown_rows S.value rows.old) }
-    requires ready { AreReady (map S.value solution.now) i j (shown_rows S.value rows.old) (shown_rows S.value spare.old) }
+    requires defined { CanReplaceOthers S.limit (map S.value solution.now) i j
+        (shown_rows S.value rows.old) }
+    requires ready { AreReady (map S.value solution.now) i j (shown_rows S.value rows.old)
+        (shown_rows S.value spare.old) }
     ensures length { length rows.new ≡ length rows.old }
     ensures even { HaveWidth (length solution.now) rows.new }
     ensures spare_length { length spare.new ≡ length spare.old }

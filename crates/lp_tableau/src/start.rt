@@ -59,7 +59,8 @@ fn slacks<R: Id, V: Id, S: Scalar, P: Rows<R, V, S>>(
     alloc: Global,
     program: &P,
 ) -> Result<Vec<Vec<S>>, NoMemory>
-    ensures rows { IfOk result (λ v. shown_rows S.value v.items ≡ map slack_row (P.program program.now).rows) }
+    ensures rows { IfOk result (λ v. shown_rows S.value v.items
+        ≡ map slack_row (P.program program.now).rows) }
     ensures fits { IfOk result (λ v. RowsFit S.limit (shown_rows S.value v.items)) }
 {
     let mut rows = Vec::new(alloc);
@@ -74,7 +75,8 @@ fn costs<R: Id, V: Id, S: Scalar, P: Rows<R, V, S>>(
     alloc: Global,
     program: &P,
 ) -> Result<Vec<S>, NoMemory>
-    ensures { IfOk result (λ v. map S.value v.items ≡ (P.program program.now).costs ++ (P.program program.now).base ∷ []) }
+    ensures { IfOk result (λ v. map S.value v.items
+        ≡ (P.program program.now).costs ++ (P.program program.now).base ∷ []) }
 {
     let mut row = Vec::new(alloc);
     for v in 0..program.var_count() {
@@ -89,7 +91,8 @@ pub(crate) fn first_tableau<R: Id, V: Id, S: Scalar, P: Rows<R, V, S>>(
     alloc: Global,
     program: &P,
 ) -> Result<Tableau<S>, NoMemory>
-    ensures dictionary { IfOk result (λ t. dictionary_of S.value t ≡ initial (P.program program.now)) }
+    ensures dictionary { IfOk result (λ t. dictionary_of S.value t
+        ≡ initial (P.program program.now)) }
     ensures fits { IfOk result (λ t. RowsFit S.limit (shown_rows S.value t.rows.items)) }
 {
     let variables = program.var_count() as usize;

@@ -21,7 +21,8 @@ pub(crate) fn walk<S: Scalar>(t: &mut Tableau<S>, room: &mut Room<S>, budget: u6
     ensures fits { RowsFit S.limit (shown_rows S.value t.new.rows.items) }
     ensures room { IsRoomFor t.new room.new }
     ensures dictionary { IsDictionary (dictionary_of S.value t.new) }
-    ensures outcome { IsOutcome S.limit (dictionary_of S.value t.old) budget (dictionary_of S.value t.new) result }
+    ensures outcome { IsOutcome S.limit (dictionary_of S.value t.old) budget
+        (dictionary_of S.value t.new) result }
 {
     for made in 0..budget {
         match next_turn(t) {
