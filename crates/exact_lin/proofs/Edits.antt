@@ -73,6 +73,10 @@ pub OnOk-always : {T E : Type 0} (r : Result T E) (P : Type 0) → P → OnOk r 
 OnOk-always (Ok x) P p = p
 OnOk-always (Err e) P p = tt
 
+pub OnOk-equal : {T E A : Type 0} (r : Result T E) (x y z : A) → y ≡ z → OnOk r (x ≡ y) → OnOk r (x ≡ z)
+OnOk-equal (Ok w) x y z e f = f ∙ e
+OnOk-equal (Err w) x y z e f = tt
+
 -- a fault is the same fault in another result
 error_of : {T E : Type 0} → Result T E → E → E
 error_of (Ok x) d = d

@@ -47,7 +47,9 @@ fn keep_below<'a, V: Id, S: Scalar>(
     terms: &'a [(V, S)],
     number: u32,
 ) -> Result<&'a [(V, S)], NoMemory>
-    ensures { IfOk result (λ rest. KeepsBelow number (shown V.number_of S.value terms.now) (shown V.number_of S.value sum.old.items) (shown V.number_of S.value sum.new.items) (shown V.number_of S.value rest.now)) }
+    ensures { let shows = shown V.number_of S.value in
+        IfOk result (λ rest. KeepsBelow number (shows terms.now)
+        (shows sum.old.items) (shows sum.new.items) (shows rest.now)) }
 {
     let mut rest = terms;
     while let Some((first, later)) = rest.split_first() {
@@ -93,8 +95,12 @@ fn merge_term<'a, V: Id, S: Scalar>(
     by: S,
     term: (V, S),
 ) -> Result<&'a [(V, S)], FormFault>
-    ensures merges { IfOk result (λ later. MergesTerm S.limit (S.value by) (shown V.number_of S.value left.now) (V.number_of term.0, S.value term.1) (shown V.number_of S.value sum.old.items) (shown V.number_of S.value sum.new.items) (shown V.number_of S.value later.now)) }
-    ensures wide { IsErrOf result FormFault.Wide → (us : Terms) → ¬ (CanMerge S.limit (S.value by) ((V.number_of term.0, S.value term.1) ∷ us) (shown V.number_of S.value left.now)) }
+    ensures merges { let shows = shown V.number_of S.value in
+        IfOk result (λ later. MergesTerm S.limit (S.value by) (shows left.now)
+        (V.number_of term.0, S.value term.1) (shows sum.old.items) (shows sum.new.items) (shows later.now)) }
+    ensures wide { IsErrOf result FormFault.Wide → (us : Terms) →
+        ¬ (CanMerge S.limit (S.value by) ((V.number_of term.0, S.value term.1) ∷ us)
+        (shown V.number_of S.value left.now)) }
 {
     let product = by.mul(term.1)?;
     let rest = keep_below(sum, left, term.0.number())?;
