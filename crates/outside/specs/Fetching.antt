@@ -21,8 +21,11 @@ answer_of (Err why) = Err why
 
 -- A desk with these files, or one that does not tell its files, may answer so where it is asked for this name.
 abbrev pub MayAnswer : Option Files → List ℕ → Answer → Type 0
-MayAnswer files name (Ok bytes) = (length bytes ≤ LONGEST_FILE) × IfSome files (λ file. file name ≡ Some bytes)
-MayAnswer files name (Err (Long count)) = (LONGEST_FILE < count) × IfSome files (λ file. IsSomeAnd (file name) (λ bytes. count ≤ length bytes))
+MayAnswer files name (Ok bytes) =
+    (length bytes ≤ LONGEST_FILE) × IfSome files (λ file. file name ≡ Some bytes)
+MayAnswer files name (Err (Long count)) =
+    (LONGEST_FILE < count)
+    × IfSome files (λ file. IsSomeAnd (file name) (λ bytes. count ≤ length bytes))
 MayAnswer files name (Err Failed) = Unit {0}
 MayAnswer files name (Err Memory) = Unit {0}
 

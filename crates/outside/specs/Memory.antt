@@ -60,7 +60,8 @@ pub record MemorySinkView : Type 0 where
 
 -- what a desk in memory tells
 abbrev pub told_by_memory_desk : MemoryDeskView → DeskView
-told_by_memory_desk desk = record { files = Some (get desk.files); faults = desk.faults; fault_name = desk.fault_name }
+told_by_memory_desk desk =
+    record { files = Some (get desk.files); faults = desk.faults; fault_name = desk.fault_name }
 
 -- what a sink in memory tells
 abbrev pub told_by_memory_sink : MemorySinkView → SinkView
@@ -77,11 +78,14 @@ is_among numbers call = list_any (λ number. number == call) numbers
 -- the answer of a desk that hands over whole files, where it has this file or none
 abbrev pub whole_file : Option (List ℕ) → Answer
 whole_file None = Err Failed
-whole_file (Some bytes) = if nat_lt LONGEST_FILE (length bytes) then Err (Long (length bytes)) else Ok bytes
+whole_file (Some bytes) =
+    if nat_lt LONGEST_FILE (length bytes) then Err (Long (length bytes)) else Ok bytes
 
 -- what the next fetch of this name answers, with ample memory
 abbrev pub due : MemoryDeskView → List ℕ → Answer
-due desk name = if is_among desk.failing (next_call desk.calls) then Err Failed else whole_file (get desk.files name)
+due desk name =
+    if is_among desk.failing (next_call desk.calls) then Err Failed
+    else whole_file (get desk.files name)
 
 -- It is the answer that was due, or memory was refused.
 abbrev pub IsDue : Answer → Answer → Type 0
@@ -92,7 +96,8 @@ IsDue due (Ok bytes) = Ok bytes ≡ due
 
 -- the desk after it gave this answer to a fetch of this name
 abbrev pub memory_desk_after : MemoryDeskView → List ℕ → Answer → MemoryDeskView
-memory_desk_after desk name (Err Failed) = record desk { calls = next_call desk.calls; faults = desk.faults + 1; fault_name = name }
+memory_desk_after desk name (Err Failed) =
+    record desk { calls = next_call desk.calls; faults = desk.faults + 1; fault_name = name }
 memory_desk_after desk name (Err (Long count)) = record desk { calls = next_call desk.calls }
 memory_desk_after desk name (Err Memory) = record desk { calls = next_call desk.calls }
 memory_desk_after desk name (Ok bytes) = record desk { calls = next_call desk.calls }
@@ -104,11 +109,15 @@ listed (entry ∷ entries) call = if entry.0 == call then Some entry.1 else list
 
 -- how much of this piece the next put takes
 abbrev pub taken : MemorySinkView → List ℕ → ℕ
-taken sink piece = min (min (unwrap_or (listed sink.failing (sink.puts + 1)) (length piece)) (length piece)) (sink.room - length sink.held)
+taken sink piece =
+    min (min (unwrap_or (listed sink.failing (sink.puts + 1)) (length piece)) (length piece))
+    (sink.room - length sink.held)
 
 -- whether the next put of this piece fails: its number is listed, or the piece doesn't fit
 abbrev pub put_fails : MemorySinkView → List ℕ → Bool
-put_fails sink piece = is_some (listed sink.failing (sink.puts + 1)) || nat_lt (sink.room - length sink.held) (length piece)
+put_fails sink piece =
+    is_some (listed sink.failing (sink.puts + 1))
+    || nat_lt (sink.room - length sink.held) (length piece)
 
 -- the sink after a put of this piece
 abbrev pub memory_sink_after : MemorySinkView → List ℕ → MemorySinkView

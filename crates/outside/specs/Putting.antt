@@ -12,7 +12,8 @@ pub record SinkView : Type 0 where
 
 -- the sink after it took this piece
 abbrev pub sink_with : SinkView → List ℕ → SinkView
-sink_with sink piece = record sink { held = option_map (λ held. held ++ piece) sink.held; puts = sink.puts + 1 }
+sink_with sink piece =
+    record sink { held = option_map (λ held. held ++ piece) sink.held; puts = sink.puts + 1 }
 
 -- the sink after it failed when it had taken this much of the piece
 abbrev pub sink_failed : SinkView → List ℕ → ℕ → SinkView

@@ -40,7 +40,8 @@ impl Model for MemoryDesk {
 
 // The file of this name.
 fn find_file<'a>(files: &'a BTreeMap<String, Vec<u8>>, name: &str) -> Option<&'a Vec<u8>>
-    ensures { option_map (λ bytes. bytes.now.items) result ≡ map.get (files_of files.entry.now) name.now }
+    ensures { option_map (λ bytes. bytes.now.items) result
+        ≡ map.get (files_of files.entry.now) name.now }
 {
     files.get(name)
 }
@@ -58,7 +59,8 @@ fn copy_file(alloc: Global, bytes: &[u8]) -> Result<Vec<u8>, Fetch>
 impl MemoryDesk {
     /// A desk without files.
     pub fn new(alloc: Global) -> MemoryDesk
-        ensures { result ≡ record { files = map.empty; failing = []; calls = 0; faults = 0; fault_name = [] } }
+        ensures { result
+            ≡ record { files = map.empty; failing = []; calls = 0; faults = 0; fault_name = [] } }
     {
         MemoryDesk {
             alloc,
@@ -72,7 +74,8 @@ impl MemoryDesk {
 
     /// Gives the name this file, in place of the one that it had.
     pub fn add(&mut self, name: &str, bytes: &[u8]) -> Result<(), AllocError>
-        ensures added { OnOk result (self.new ≡ record self.old { files = map.insert self.old.files name.now bytes.now }) }
+        ensures added { OnOk result (self.new
+            ≡ record self.old { files = map.insert self.old.files name.now bytes.now }) }
         ensures err { OnErr result (self.new ≡ self.old) }
     {
         let name = String::from_str(self.alloc, name)?;
@@ -83,7 +86,8 @@ impl MemoryDesk {
 
     /// The fetch of this number is to fail. Fetches count from 1.
     pub fn fail_at(&mut self, call: u64) -> Result<(), AllocError>
-        ensures listed { OnOk result (self.new ≡ record self.old { failing = self.old.failing ++ call ∷ [] }) }
+        ensures listed { OnOk result (self.new
+            ≡ record self.old { failing = self.old.failing ++ call ∷ [] }) }
         ensures err { OnErr result (self.new ≡ self.old) }
     {
         self.failing.push(call)?;
@@ -104,7 +108,8 @@ impl Desk for MemoryDesk {
     fn fetch(&mut self, alloc: Global, name: &str) -> Result<Vec<u8>, Fetch>
         requires { self.old.faults < 2 ^ 64 - 1 }
         ensures answer { MayAnswer (Some (map.get self.old.files)) name.now (answer_of result) }
-        ensures after { told_by_memory_desk self.new ≡ desk_after (told_by_memory_desk self.old) name.now (answer_of result) }
+        ensures after { told_by_memory_desk self.new
+            ≡ desk_after (told_by_memory_desk self.old) name.now (answer_of result) }
 
         // It fails exactly where the call's number is listed or the name has no file.
         ensures due { IsDue (due self.old name.now) (answer_of result) }

@@ -32,7 +32,8 @@ impl Model for MemorySink {
       faults = s.faults;
     } };
 
-    ghost invariant = { λ s. (vec_len s.held ≤ s.room) × (s.room ≤ vec_capacity s.held) × (s.faults ≤ s.puts) };
+    ghost invariant = { λ s.
+        (vec_len s.held ≤ s.room) × (s.room ≤ vec_capacity s.held) × (s.faults ≤ s.puts) };
 }
 
 // How much of its piece the put of this number takes, where it is to fail.
@@ -50,7 +51,8 @@ fn find_call(failing: &[(u64, usize)], call: u64) -> Option<usize>
 impl MemorySink {
     /// An empty sink for at most `room` bytes, whose memory is taken here.
     pub fn new(alloc: Global, room: usize) -> Result<MemorySink, AllocError>
-        ensures { IfOk result (λ s. s ≡ record { held = []; room = room; failing = []; puts = 0; faults = 0 }) }
+        ensures { IfOk result (λ s.
+            s ≡ record { held = []; room = room; failing = []; puts = 0; faults = 0 }) }
     {
         Ok(MemorySink {
             held: Vec::with_capacity(alloc, room)?,
@@ -65,7 +67,8 @@ impl MemorySink {
     /// the piece or the room ends before. Puts count from 1. Of several entries for one put the
     /// first counts.
     pub fn fail_at(&mut self, call: u64, taken: usize) -> Result<(), AllocError>
-        ensures listed { OnOk result (self.new ≡ record self.old { failing = self.old.failing ++ (call, taken) ∷ [] }) }
+        ensures listed { OnOk result (self.new
+            ≡ record self.old { failing = self.old.failing ++ (call, taken) ∷ [] }) }
         ensures err { OnErr result (self.new ≡ self.old) }
     {
         self.failing.push((call, taken))?;
@@ -99,7 +102,8 @@ impl Sink for MemorySink {
 
     fn put(&mut self, bytes: &[u8]) -> Result<(), Failed>
         requires { self.old.puts < 2 ^ 64 - 1 }
-        ensures took { Took bytes.now result (told_by_memory_sink self.old) (told_by_memory_sink self.new) }
+        ensures took { Took bytes.now result
+            (told_by_memory_sink self.old) (told_by_memory_sink self.new) }
 
         // It fails exactly where the call's number is listed or the piece doesn't fit.
         ensures fails { is_ok result ≡ not (put_fails self.old bytes.now) }

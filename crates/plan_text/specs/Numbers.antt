@@ -54,7 +54,8 @@ padded (suc places) n = padded places (n / 10) ++ (48 + n % 10) ∷ []
 -- the least number of places, from a first one on, at which the power of ten is a multiple
 abbrev pub places_from : ℕ → ℕ → ℕ → Option ℕ
 places_from zero places d = None
-places_from (suc more) places d = if 10 ^ places % d == 0 then Some places else places_from more (suc places) d
+places_from (suc more) places d =
+    if 10 ^ places % d == 0 then Some places else places_from more (suc places) d
 
 -- how many places, at least 3 and at most 18, a fraction over d needs as a decimal, if so many are enough
 unfoldable pub places_of : ℕ → Option ℕ

@@ -23,11 +23,14 @@ pair_if test n d = if test then Some (n, d) else None
 
 -- the two parts of a decimal: all its digits, and a power of ten
 abbrev pub decimal_parts : List ℕ → List ℕ → Option (ℕ × ℕ)
-decimal_parts front places = pair_if (is_digits places && nat_le (length places) digit_limit) (number (front ++ places)) (10 ^ length places)
+decimal_parts front places =
+    pair_if (is_digits places && nat_le (length places) digit_limit)
+    (number (front ++ places)) (10 ^ length places)
 
 -- the two parts of a quotient
 abbrev pub quotient_parts : List ℕ → List ℕ → Option (ℕ × ℕ)
-quotient_parts above below = pair_if (is_digits below && nat_lt 0 (number below)) (number above) (number below)
+quotient_parts above below =
+    pair_if (is_digits below && nat_lt 0 (number below)) (number above) (number below)
 
 -- the two parts of digits, a mark and what follows it
 abbrev pub parts_marked : List ℕ → ℕ → List ℕ → Option (ℕ × ℕ)
@@ -58,4 +61,5 @@ has_digit_above_zero ds = list_any (λ b. not (b == 48)) ds
 -- and one that answers the negative of it
 abbrev pub GivesNegative : Option (ℕ × ℕ) → Option ℚ → Type 0
 GivesNegative None result = result ≡ None
-GivesNegative (Some p) result = SomeIff result (Fits wide_limit (ratio (pos p.0) p.1)) (neg_ℚ (ratio (pos p.0) p.1))
+GivesNegative (Some p) result =
+    SomeIff result (Fits wide_limit (ratio (pos p.0) p.1)) (neg_ℚ (ratio (pos p.0) p.1))

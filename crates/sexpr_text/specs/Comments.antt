@@ -10,7 +10,8 @@ is_parenthesis b = (b == 40) || (b == 41)
 -- semicolon, or is no line feed and the byte before it is in a comment.
 unfoldable pub in_comment : List ℕ → ℕ → Bool
 in_comment text zero = slice_index text 0 == 59
-in_comment text (suc i) = not (slice_index text (suc i) == 10) && ((slice_index text (suc i) == 59) || in_comment text i)
+in_comment text (suc i) =
+    not (slice_index text (suc i) == 10) && ((slice_index text (suc i) == 59) || in_comment text i)
 
 -- there is a byte at the place, and it is in no comment
 unfoldable pub is_code : List ℕ → ℕ → Bool

@@ -10,7 +10,8 @@ use Rattle.sexpr_text.specs.Lists.{Matches, IsDeep}
 
 -- a run begins at the place, and this is wrong with it
 abbrev pub HasRunFault : List ℕ → ℕ → RunFault → Type 0
-HasRunFault text place wrong = (end : ℕ) × IsRun text place end × (reading (slice_range text place end) ≡ Err wrong)
+HasRunFault text place wrong =
+    (end : ℕ) × IsRun text place end × (reading (slice_range text place end) ≡ Err wrong)
 
 -- The fault is one of the text, wherever other faults are: a run that spells nothing, a list that no parenthesis
 -- closes, a parenthesis that closes no list, a list that lies in 64 others.
@@ -18,8 +19,10 @@ abbrev pub IsFault : List ℕ → LexFault → Type 0
 IsFault text (Byte place) = HasRunFault text place of_run.Unknown
 IsFault text (LongName place) = HasRunFault text place of_run.LongName
 IsFault text (Number place) = HasRunFault text place of_run.Malformed
-IsFault text (Open place) = (opens_at text place ≡ true) × ((last : ℕ) → Matches text place last → ⊥)
-IsFault text (Close place) = (closes_at text place ≡ true) × ((first : ℕ) → Matches text first place → ⊥)
+IsFault text (Open place) =
+    (opens_at text place ≡ true) × ((last : ℕ) → Matches text place last → ⊥)
+IsFault text (Close place) =
+    (closes_at text place ≡ true) × ((first : ℕ) → Matches text first place → ⊥)
 IsFault text (Deep place) = IsDeep text place
 IsFault text Memory = ⊥
 

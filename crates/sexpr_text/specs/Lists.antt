@@ -16,7 +16,8 @@ closed text (suc i) = (if closes_at text i then suc (closed text i) else closed 
 -- between do more close than open.
 pub record IsBalanced (text : List ℕ) (from to : ℕ) : Type 0 where
   pub even : opened text to + closed text from ≡ closed text to + opened text from
-  pub never_below : (n : ℕ) → from ≤ n → n ≤ to → closed text n + opened text from ≤ opened text n + closed text from
+  pub never_below : (n : ℕ) → from ≤ n → n ≤ to
+      → closed text n + opened text from ≤ opened text n + closed text from
 
 -- the list that opens at one place closes at the other: what stands between is balanced
 pub record Matches (text : List ℕ) (first last : ℕ) : Type 0 where

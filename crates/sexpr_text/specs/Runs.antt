@@ -37,7 +37,8 @@ begins_as_number run = begins_with_digit_or_point (unsigned run)
 
 -- one of = < > + - * /
 abbrev pub is_mark_byte : ℕ → Bool
-is_mark_byte b = (b == 61) || ((b == 60) || ((b == 62) || ((b == 43) || ((b == 45) || ((b == 42) || (b == 47))))))
+is_mark_byte b =
+    (b == 61) || ((b == 60) || ((b == 62) || ((b == 43) || ((b == 45) || ((b == 42) || (b == 47))))))
 
 -- one of these, or <= or >=
 abbrev pub is_mark : List ℕ → Bool
@@ -59,7 +60,8 @@ name_reading kind name = if nat_le (length name) name_limit then Ok kind else Er
 
 -- a number of not too many digits
 abbrev pub number_reading : List ℕ → Result TokenKind RunFault
-number_reading run = if is_number run && nat_le (digit_count run) digit_limit then Ok Number else Err Malformed
+number_reading run =
+    if is_number run && nat_le (digit_count run) digit_limit then Ok Number else Err Malformed
 
 -- What a run spells, or what is wrong with it. The prefix of a variable or a keyword isn't counted among its bytes.
 unfoldable pub reading : List ℕ → Result TokenKind RunFault

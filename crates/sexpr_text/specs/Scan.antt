@@ -62,7 +62,8 @@ pub record Scanned (text : List ℕ) (at depth outer : ℕ) (tokens : List Token
 
 -- the scanner has come so far
 abbrev pub HasScanned : List ℕ → Scanner → Type 0
-HasScanned text scanner = Scanned text scanner.at scanner.depth scanner.outermost scanner.tokens.items
+HasScanned text scanner =
+    Scanned text scanner.at scanner.depth scanner.outermost scanner.tokens.items
 
 -- these are the tokens of the text, but for the mates, and the text has no fault
 pub record AreUnmated (text : List ℕ) (tokens : List Token) : Type 0 where

@@ -16,7 +16,8 @@ IsSpan text at end kind = IsRun text at end × (reading (slice_range text at end
 -- From one place up to another stand these tokens in order, and beside them only blanks and comments.
 abbrev pub AreSpans : List ℕ → ℕ → ℕ → List Token → Type 0
 AreSpans text from to [] = (from ≤ to) × NothingWritten text from to
-AreSpans text from to (t ∷ ts) = (from ≤ t.at) × NothingWritten text from t.at × IsSpan text t.at t.end t.kind × AreSpans text t.end to ts
+AreSpans text from to (t ∷ ts) =
+    (from ≤ t.at) × NothingWritten text from t.at × IsSpan text t.at t.end t.kind × AreSpans text t.end to ts
 
 -- the token at a place in the list is the parenthesis at a place in the text
 abbrev pub StandsAt : List Token → ℕ → ℕ → Type 0
@@ -24,13 +25,16 @@ StandsAt tokens index place = (t : Token) × (slice_get tokens index ≡ Some t)
 
 -- the mate of the token with this number: of a parenthesis the number of the one that it belongs to, else its own
 abbrev pub IsMate : List ℕ → List Token → ℕ → ℕ → TokenKind → ℕ → Type 0
-IsMate text tokens index at Open mate = (place : ℕ) × StandsAt tokens mate place × Matches text at place
-IsMate text tokens index at Close mate = (place : ℕ) × StandsAt tokens mate place × Matches text place at
+IsMate text tokens index at Open mate =
+    (place : ℕ) × StandsAt tokens mate place × Matches text at place
+IsMate text tokens index at Close mate =
+    (place : ℕ) × StandsAt tokens mate place × Matches text place at
 IsMate text tokens index at kind mate = mate ≡ index
 
 -- each token has its mate
 abbrev pub HaveMates : List ℕ → List Token → Type 0
-HaveMates text tokens = (i : ℕ) (t : Token) → slice_get tokens i ≡ Some t → IsMate text tokens i t.at t.kind t.mate
+HaveMates text tokens =
+    (i : ℕ) (t : Token) → slice_get tokens i ≡ Some t → IsMate text tokens i t.at t.kind t.mate
 
 -- These are the tokens of the text: in order and all of them, each with its mate, and no list deeper than 64.
 pub record AreTokens (text : List ℕ) (tokens : List Token) : Type 0 where
