@@ -1,8 +1,10 @@
 -- Links are read off the touches of two snap actions.
-use Rattle.std.proofs.Common.{◌≡◌, refl, sym, ap, ◌∙◌, ℕ, ◌+◌, ◌<◌, Bool, true, false, ◌&&◌, ◌||◌, ◌==◌, List, [], ◌∷◌, ◌++◌, arith}
+use Rattle.std.proofs.Common.{◌≡◌, refl, ap, ◌∙◌, ℕ, ◌+◌, ◌<◌, Bool, true, false, ◌&&◌, ◌||◌, ◌==◌, List, [], ◌∷◌, ◌++◌, arith}
 use Rattle.std.specs.Prelude.{if◌then◌else◌}
 use Rattle.std.specs.List.{list_any, flat_map, enumerate_from}
 use Rattle.std.proofs.lemmas.Bool.Decides.{nat_tests}
+use Rattle.std.proofs.lemmas.List.Folds.{list_any-append}
+use Rattle.basics.proofs.Naturals.{same_itself}
 use Rattle.task_types.specs.declared.actions.Snap.{Snap}
 use Rattle.task_types.specs.declared.parts.TaskParts.{TaskParts}
 use Rattle.task_types.specs.declared.tokens.Token.{Token}
@@ -11,14 +13,6 @@ use Rattle.task_types.specs.declared.tokens.Touch.TheVariants.{Look, Mark, Bend}
 use Rattle.task_types.specs.Touch.{looks, marks, bends, touches_on, touches_of, tokens}
 use Rattle.task_types.specs.Order.{link, sets_apart, sets_order}
 use Rattle.task_types.specs.Laws.{marks_apart, bends_one, some_meeting, LinksByTouches}
-
-or_assoc : (a b c : Bool) → ((a || b) || c) ≡ (a || (b || c))
-or_assoc true b c = refl
-or_assoc false b c = refl
-
-any_append : {X : Type 0} (p : X → Bool) (xs ys : List X) → list_any p (xs ++ ys) ≡ (list_any p xs || list_any p ys)
-any_append p [] ys = refl
-any_append p (x ∷ xs) ys = ap (λ b. p x || b) (any_append p xs ys) ∙ sym (or_assoc (p x) (list_any p xs) (list_any p ys))
 
 -- entries whose tokens are all n, or all above n
 abbrev At : ℕ → List (ℕ × Touch) → Type 0
@@ -78,7 +72,7 @@ module _ (test : Touch → Touch → Bool) where
 
   meeting-append_right : (xs ys zs : List (ℕ × Touch)) → some_meeting test xs (ys ++ zs) ≡ (some_meeting test xs ys || some_meeting test xs zs)
   meeting-append_right [] ys zs = refl
-  meeting-append_right (x ∷ xs) ys zs = ap (λ b. b || some_meeting test xs (ys ++ zs)) (any_append (λ y. (x.0 == y.0) && test x.1 y.1) ys zs)
+  meeting-append_right (x ∷ xs) ys zs = ap (λ b. b || some_meeting test xs (ys ++ zs)) (list_any-append (λ y. (x.0 == y.0) && test x.1 y.1) ys zs)
       ∙ ap (λ b. (list_any (λ y. (x.0 == y.0) && test x.1 y.1) ys || list_any (λ y. (x.0 == y.0) && test x.1 y.1) zs) || b) (meeting-append_right xs ys zs)
       ∙ middle (list_any (λ y. (x.0 == y.0) && test x.1 y.1) ys) (list_any (λ y. (x.0 == y.0) && test x.1 y.1) zs) (some_meeting test xs ys) (some_meeting test xs zs)
     where
@@ -89,7 +83,7 @@ module _ (test : Touch → Touch → Bool) where
       middle false false c d = refl
 
   meeting-append_left : (xs ys zs : List (ℕ × Touch)) → some_meeting test (xs ++ ys) zs ≡ (some_meeting test xs zs || some_meeting test ys zs)
-  meeting-append_left xs ys zs = any_append (λ x. list_any (λ y. (x.0 == y.0) && test x.1 y.1) zs) xs ys
+  meeting-append_left xs ys zs = list_any-append (λ x. list_any (λ y. (x.0 == y.0) && test x.1 y.1) zs) xs ys
 
   -- what the touches on one token say
   module _ (task : TaskParts) (x y : Snap) (on : Token → Bool) (here : (n : ℕ) (t : Token) → some_meeting test (touches_on task x n t) (touches_on task y n t) ≡ on t) where
@@ -111,9 +105,6 @@ module _ (test : Touch → Touch → Bool) where
         or_false false = refl
 
 -- ---- one token: the looks, marks and bends of both
-
-same_itself : (n : ℕ) → (n == n) ≡ true
-same_itself n = grind (arith, nat_tests)
 
 abbrev entries : ℕ → Bool → Bool → Bool → List (ℕ × Touch)
 entries n l m b = (if l then (n, Look) ∷ [] else []) ++ (if m then (n, Mark) ∷ [] else []) ++ (if b then (n, Bend) ∷ [] else [])
