@@ -28,7 +28,7 @@ use Rattle.task_types.proofs.Comparisons.{eq_out, lt_in}
 
 -- ---- members of lists of numbers
 
-is_in-left : (x : ℕ) (ys zs : List ℕ) → is_in x ys ≡ true → is_in x (ys ++ zs) ≡ true
+pub is_in-left : (x : ℕ) (ys zs : List ℕ) → is_in x ys ≡ true → is_in x (ys ++ zs) ≡ true
 is_in-left x [] zs h = let c : false ≡ true = h in cc
 is_in-left x (y ∷ ys) zs h = go (y == x) h (is_in-left x ys zs)
   where

@@ -5,6 +5,7 @@ use Rattle.std.specs.List.{list_all, list_any}
 use Rattle.std.proofs.Math.Path.{fun_ext}
 use Rattle.std.proofs.lemmas.List.{length-map}
 use Rattle.std.proofs.lemmas.Bool.Decides.{nat_tests}
+use Rattle.basics.proofs.Bools.{and_assoc, or_assoc, not_true}
 use Rattle.task_types.specs.declared.constraints.TrailKind.{TrailKind}
 use Rattle.task_types.specs.declared.constraints.TrailKind.TheVariants.{Always, Sometime, Within, AtMostOnce, SometimeAfter, SometimeBefore, AtEnd}
 use Rattle.task_types.specs.Tests.{◌≤?◌, every, some, ◌⇒◌}
@@ -14,14 +15,6 @@ use Rattle.task_types.specs.Laws.{none_later, run_ends, one_run, are_answered, a
 use Rattle.task_types.proofs.Traces as by_index
 
 -- ---- the first number, then the others
-
-and_assoc : (a b c : Bool) → ((a && b) && c) ≡ (a && (b && c))
-and_assoc true b c = refl
-and_assoc false b c = refl
-
-or_assoc : (a b c : Bool) → ((a || b) || c) ≡ (a || (b || c))
-or_assoc true b c = refl
-or_assoc false b c = refl
 
 and_true : (b : Bool) → (true && b) ≡ (b && true)
 and_true true = refl
@@ -155,10 +148,6 @@ fails_at : {M : Type 0} (a : M → Bool) (ms : List M) (k : ℕ) → k < length 
 fails_at a [] k h e = absurd (omega arith)
 fails_at a (m ∷ ms) zero h e = ap not e
 fails_at a (m ∷ ms) (suc k) h e = fails_at a ms k (omega arith) e
-
-not_true : (b : Bool) → not b ≡ true → b ≡ false
-not_true true e = sym e
-not_true false e = refl
 
 failed_at : {M : Type 0} (a : M → Bool) (ms : List M) (k : ℕ) → at ms k (λ m. not (a m)) ≡ true → at ms k a ≡ false
 failed_at a [] k h = refl

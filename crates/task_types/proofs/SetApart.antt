@@ -18,18 +18,10 @@ use Rattle.task_types.specs.Clash.{clash, disturbs, condition_fluents, form_flue
 use Rattle.task_types.specs.Touch.{is_timed, looks, marks, tokens, tracked_fluents, snap_tracked, action_tracked, comparison_tokens, trail_facts, soft_facts, soft_fluents}
 use Rattle.task_types.specs.Order.{sets_apart, sets_order, link}
 use Rattle.task_types.specs.WellMade.{IsWellMade, snap_fits, condition_fits, effect_fits}
-use Rattle.task_types.proofs.Assigning.{snap_of_fits}
+use Rattle.task_types.proofs.Assigning.{is_in-left, snap_of_fits}
 use Rattle.task_types.proofs.Links.{link_comm}
 
 -- ---- members
-
-in_left : (f : ℕ) (xs ys : List ℕ) → is_in f xs ≡ true → is_in f (xs ++ ys) ≡ true
-in_left f [] ys h = cc
-in_left f (x ∷ xs) ys h = go (x == f) h (in_left f xs ys)
-  where
-    go : (b : Bool) → (b || is_in f xs) ≡ true → (is_in f xs ≡ true → is_in f (xs ++ ys) ≡ true) → (b || is_in f (xs ++ ys)) ≡ true
-    go true h r = refl
-    go false h r = r h
 
 in_right : (f : ℕ) (xs ys : List ℕ) → is_in f ys ≡ true → is_in f (xs ++ ys) ≡ true
 in_right f [] ys h = h
@@ -68,7 +60,7 @@ below_out n f (x ∷ xs) h k = go (x == f) refl k (below_out n f xs (and_right _
 -- a member of a list of one element's is a member of that of all
 in_flat : {X : Type 0} (g : X → List ℕ) (f : ℕ) (d : X) → is_in f (g d) ≡ false → (xs : List X) (k : ℕ) → is_in f (g (slice_index_or xs k d)) ≡ true → is_in f (flat_map g xs) ≡ true
 in_flat g f d e [] k h = let c : false ≡ true = sym e ∙ h in cc
-in_flat g f d e (x ∷ xs) zero h = in_left f (g x) (flat_map g xs) h
+in_flat g f d e (x ∷ xs) zero h = is_in-left f (g x) (flat_map g xs) h
 in_flat g f d e (x ∷ xs) (suc k) h = in_right f (g x) (flat_map g xs) (in_flat g f d e xs k h)
 
 -- what a chosen part has, the whole has
@@ -77,7 +69,7 @@ in_chosen g f p [] h = h
 in_chosen g f p (x ∷ xs) h = go (p x) h (in_chosen g f p xs)
   where
     go : (b : Bool) → is_in f (flat_map g (cond b (x ∷ filter p xs) (filter p xs))) ≡ true → (is_in f (flat_map g (filter p xs)) ≡ true → is_in f (flat_map g xs) ≡ true) → is_in f (g x ++ flat_map g xs) ≡ true
-    go true h r = elim (among f (g x) (flat_map g (filter p xs)) h) [ first k ↦ in_left f (g x) (flat_map g xs) k | second k ↦ in_right f (g x) (flat_map g xs) (r k) ]
+    go true h r = elim (among f (g x) (flat_map g (filter p xs)) h) [ first k ↦ is_in-left f (g x) (flat_map g xs) k | second k ↦ in_right f (g x) (flat_map g xs) (r k) ]
     go false h r = in_right f (g x) (flat_map g xs) (r h)
 
 -- ---- tokens
@@ -159,11 +151,11 @@ module _ (task : TaskParts) (x y : Snap) where
 -- ---- what a snap action reads or assigns is tracked
 
 tracked_by_snap : (task : TaskParts) (f i : ℕ) → is_in f (snap_tracked (snap_of task i)) ≡ true → is_in f (tracked_fluents task) ≡ true
-tracked_by_snap task f i h = in_left f _ _ (in_left f _ _ (in_left f _ _ (in_flat snap_tracked f no_snap refl task.snaps i h)))
+tracked_by_snap task f i h = is_in-left f _ _ (is_in-left f _ _ (is_in-left f _ _ (in_flat snap_tracked f no_snap refl task.snaps i h)))
 
 tracked_by_action : (task : TaskParts) (f a : ℕ) → is_in f (action_tracked (action_of task a)) ≡ true → is_in f (tracked_fluents task) ≡ true
-tracked_by_action task f a h = in_left f (flat_map snap_tracked task.snaps ++ flat_map action_tracked task.actions ++ condition_fluents task.goal) (flat_map soft_fluents task.soft)
-    (in_left f (flat_map snap_tracked task.snaps ++ flat_map action_tracked task.actions) (condition_fluents task.goal)
+tracked_by_action task f a h = is_in-left f (flat_map snap_tracked task.snaps ++ flat_map action_tracked task.actions ++ condition_fluents task.goal) (flat_map soft_fluents task.soft)
+    (is_in-left f (flat_map snap_tracked task.snaps ++ flat_map action_tracked task.actions) (condition_fluents task.goal)
     (in_right f (flat_map snap_tracked task.snaps) (flat_map action_tracked task.actions) (in_flat action_tracked f no_action refl task.actions a h)))
 
 bounds_tracked : (task : TaskParts) (f : ℕ) (s : Snap) → is_in f (flat_map (λ b. form_fluents b.form) (read_bounds task s)) ≡ true → is_in f (tracked_fluents task) ≡ true
@@ -178,7 +170,7 @@ bounds_tracked task f s h = go s.action (in_chosen (λ (b : Bound). form_fluents
     go (Some a) h = tracked_by_action task f a (in_right f (condition_fluents (action_of task a).over_all) _ (subst (λ xs. is_in f (flat_map (λ (b : Bound). form_fluents b.form) xs) ≡ true) (append_none (action_of task a).bounds) h))
 
 read_tracked : (task : TaskParts) (f i : ℕ) → is_in f (read_fluents task (snap_of task i)) ≡ true → is_in f (tracked_fluents task) ≡ true
-read_tracked task f i h = elim (among f _ _ h) [ first k ↦ tracked_by_snap task f i (in_left f _ _ k) | second k ↦ bounds_tracked task f (snap_of task i) k ]
+read_tracked task f i h = elim (among f _ _ h) [ first k ↦ tracked_by_snap task f i (is_in-left f _ _ k) | second k ↦ bounds_tracked task f (snap_of task i) k ]
 
 -- ---- each way to clash
 
@@ -212,16 +204,16 @@ module _ (task : TaskParts) (well : IsWellMade task) (i j : ℕ) where
   marks_marks t h k = or_left _ _ (and_in _ _ h (or_left _ _ k))
 
   by_reading : meet (read_facts (snap_of task i)) (changed_facts (snap_of task j)) ≡ true → list_any (sets_apart task (snap_of task i) (snap_of task j)) (tokens task) ≡ true
-  by_reading h = let m = meet_out _ _ h in by_fact task (snap_of task i) (snap_of task j) m.0 (reads_a_fact m.0 m.1) (looks_marks (token.Fact m.0) (in_left m.0 _ _ m.1) m.2)
+  by_reading h = let m = meet_out _ _ h in by_fact task (snap_of task i) (snap_of task j) m.0 (reads_a_fact m.0 m.1) (looks_marks (token.Fact m.0) (is_in-left m.0 _ _ m.1) m.2)
 
   by_adding : meet (snap_of task i).effect.adds (snap_of task j).effect.deletes ≡ true → list_any (sets_apart task (snap_of task i) (snap_of task j)) (tokens task) ≡ true
-  by_adding h = let m = meet_out _ _ h in by_fact task (snap_of task i) (snap_of task j) m.0 (adds_a_fact m.0 m.1) (marks_marks (token.Fact m.0) (in_left m.0 _ _ m.1) (in_right m.0 (snap_of task j).effect.adds _ m.2))
+  by_adding h = let m = meet_out _ _ h in by_fact task (snap_of task i) (snap_of task j) m.0 (adds_a_fact m.0 m.1) (marks_marks (token.Fact m.0) (is_in-left m.0 _ _ m.1) (in_right m.0 (snap_of task j).effect.adds _ m.2))
 
   by_writing : meet (read_fluents task (snap_of task i)) (written_fluents (snap_of task j)) ≡ true → list_any (sets_apart task (snap_of task i) (snap_of task j)) (tokens task) ≡ true
-  by_writing h = let m = meet_out _ _ h in by_fluent task (snap_of task i) (snap_of task j) m.0 (writes_a_fluent j m.0 m.2) (read_tracked task m.0 i m.1) (looks_marks (token.Fluent m.0) (in_left m.0 _ _ m.1) m.2)
+  by_writing h = let m = meet_out _ _ h in by_fluent task (snap_of task i) (snap_of task j) m.0 (writes_a_fluent j m.0 m.2) (read_tracked task m.0 i m.1) (looks_marks (token.Fluent m.0) (is_in-left m.0 _ _ m.1) m.2)
 
   by_assigning : meet (assigned_fluents (snap_of task i)) (written_fluents (snap_of task j)) ≡ true → list_any (sets_apart task (snap_of task i) (snap_of task j)) (tokens task) ≡ true
-  by_assigning h = let m = meet_out _ _ h in by_fluent task (snap_of task i) (snap_of task j) m.0 (writes_a_fluent j m.0 m.2) (tracked_by_snap task m.0 i (in_right m.0 _ _ m.1)) (marks_marks (token.Fluent m.0) (in_left m.0 _ _ m.1) m.2)
+  by_assigning h = let m = meet_out _ _ h in by_fluent task (snap_of task i) (snap_of task j) m.0 (writes_a_fluent j m.0 m.2) (tracked_by_snap task m.0 i (in_right m.0 _ _ m.1)) (marks_marks (token.Fluent m.0) (is_in-left m.0 _ _ m.1) m.2)
 
   disturbed : disturbs task (snap_of task j) (snap_of task i) ≡ true → list_any (sets_apart task (snap_of task i) (snap_of task j)) (tokens task) ≡ true
   disturbed h = four _ _ _ _ h by_reading by_adding by_writing by_assigning

@@ -6,6 +6,7 @@ use Rattle.std.proofs.lemmas.Bool.Decides.{nat_tests}
 use Rattle.std.proofs.lemmas.List.Sums.{fold-append, sum_by-cons}
 use native.Mathlib.Decide.{dec_lt}
 use Rattle.std.proofs.lemmas.List.Concat.{flat_map-append}
+use Rattle.std.proofs.lemmas.List.Folds.{list_any-append}
 use Rattle.rational.specs.Rational.{ℚ, ◌-ℚ◌}
 use Rattle.basics.proofs.Bools.{and_left, and_right, and_in, or_false_left, or_false_right, not_true}
 use Rattle.basics.proofs.Naturals.{same_out}
@@ -25,14 +26,6 @@ use Rattle.task_types.proofs.Formed.{IsOwned, timed, started, ended, at_once, sn
 
 -- ---- lists without repetition
 
-is_in-append : (x : ℕ) (xs ys : List ℕ) → is_in x (xs ++ ys) ≡ (is_in x xs || is_in x ys)
-is_in-append x [] ys = refl
-is_in-append x (y ∷ xs) ys = go (y == x) (is_in-append x xs ys)
-  where
-    go : (b : Bool) → is_in x (xs ++ ys) ≡ (is_in x xs || is_in x ys) → (b || is_in x (xs ++ ys)) ≡ ((b || is_in x xs) || is_in x ys)
-    go true e = refl
-    go false e = e
-
 other_way : (a b : ℕ) → (a == b) ≡ (b == a)
 other_way a b = grind (arith, nat_tests)
 
@@ -45,7 +38,7 @@ distinct_more a (x ∷ xs) h d = and_in (not (is_in x (xs ++ a ∷ []))) (are_di
     neither b c e f = rw (e, f) refl
 
     outside : is_in x (xs ++ a ∷ []) ≡ false
-    outside = is_in-append x xs (a ∷ []) ∙ neither (is_in x xs) (a == x) (not_true (is_in x xs) (and_left (not (is_in x xs)) (are_distinct xs) d)) (other_way a x ∙ or_false_left (x == a) (is_in a xs) h)
+    outside = list_any-append (λ y. y == x) xs (a ∷ []) ∙ neither (is_in x xs) (a == x) (not_true (is_in x xs) (and_left (not (is_in x xs)) (are_distinct xs) d)) (other_way a x ∙ or_false_left (x == a) (is_in a xs) h)
 
 chosen_not_in : (x : ℕ) (p : ℕ → Bool) (xs : List ℕ) → is_in x xs ≡ false → is_in x (filter p xs) ≡ false
 chosen_not_in x p [] h = refl
