@@ -408,44 +408,50 @@ fn programs_over_one_variable(rt: HostRuntime) -> Result<(), Fail> {
     Ok(())
 }
 
-// The outcome of the program with x at least 10^18 under this budget, and the point where it has one.
-fn far_outcome<S: Scalar>(
+// Whether the program with x at least 10^18 comes out so under this budget, at the point x, y where it is optimal.
+fn far_is<S: Scalar>(
     alloc: Global,
     budget: u64,
-) -> Result<Option<(Outcome, [S; 2])>, NoMemory> {
+    outcome: Outcome,
+    x: S,
+    y: S,
+) -> Result<bool, NoMemory> {
     let Ok(bound) = S::of_int(-1000000000).mul(S::of_int(1000000000)) else {
-        return Ok(None);
+        return Ok(false);
     };
     let program = FarAway { bound };
     let Some(mut dictionary) = first_of::<S, FarAway<S>>(alloc, &program, None, 0)? else {
-        return Ok(None);
+        return Ok(false);
     };
     let mut point = [S::of_int(0); 2];
-    let outcome = dictionary.solve(budget);
-    match outcome {
+    let answer = dictionary.solve(budget);
+    match answer {
         Outcome::Optimal => dictionary.point_into(&mut point),
         Outcome::Infeasible | Outcome::Spent(_) | Outcome::Wide(_) => {},
     }
-    Ok(Some((outcome, point)))
+    Ok(answer == outcome && point[0] == x && point[1] == y)
 }
 
-// Whether y is 100 times x, and x is 10^18.
-fn is_far_point(point: [Fraction; 2]) -> bool {
-    match Fraction::of_int(1000000000).mul(Fraction::of_int(1000000000)) {
-        Ok(far) => point[0] == far && far.mul(Fraction::of_int(100)) == Ok(point[1]),
-        Err(_) => false,
+// 10^18, and 100 times as much.
+fn far_point() -> Option<(Fraction, Fraction)> {
+    let Ok(x) = Fraction::of_int(1000000000).mul(Fraction::of_int(1000000000)) else {
+        return None;
+    };
+    match x.mul(Fraction::of_int(100)) {
+        Ok(y) => Some((x, y)),
+        Err(_) => None,
     }
 }
 
 // 100 * 10^18 has no narrow parts.
 #[test]
 fn a_far_point_is_wide(rt: HostRuntime) -> Result<(), Fail> {
-    let none = [Narrow::of_int(0); 2];
-    assert!(rt; far_outcome::<Narrow>(rt.alloc(), 5)? == Some((Outcome::Wide(0), none)));
-    let start = [Fraction::of_int(0); 2];
-    assert!(rt; far_outcome::<Fraction>(rt.alloc(), 1)? == Some((Outcome::Spent(1), start)));
-    match far_outcome::<Fraction>(rt.alloc(), 2)? {
-        Some((outcome, point)) => assert!(rt; outcome == Outcome::Optimal && is_far_point(point)),
+    let none = Narrow::of_int(0);
+    assert!(rt; far_is(rt.alloc(), 5, Outcome::Wide(0), none, none)?);
+    let start = Fraction::of_int(0);
+    assert!(rt; far_is(rt.alloc(), 1, Outcome::Spent(1), start, start)?);
+    match far_point() {
+        Some((x, y)) => assert!(rt; far_is(rt.alloc(), 2, Outcome::Optimal, x, y)?),
         None => assert!(rt; false),
     }
     Ok(())
