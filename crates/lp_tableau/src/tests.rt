@@ -225,12 +225,9 @@ fn holds<S: Scalar>(alloc: Global, case: &Case) -> Result<bool, NoMemory> {
         Outcome::Infeasible => dictionary.farkas_into(&mut rows),
         Outcome::Spent(_) | Outcome::Wide(_) => {},
     }
-    Ok(
-        answer == case.outcome
-            && are(&rows, &case.multipliers)
-            && are(&point, &case.point)
-            && value == S::of_int(case.value),
-    )
+    let rows_are = are(&rows, &case.multipliers);
+    let point_is = are(&point, &case.point);
+    Ok(answer == case.outcome && rows_are && point_is && value == S::of_int(case.value))
 }
 
 fn outcome_is<S: Scalar>(alloc: Global, case: &Case, outcome: Outcome) -> Result<bool, NoMemory> {
@@ -373,7 +370,8 @@ fn one_variable_has_none<S: Scalar>(alloc: Global) -> Result<bool, NoMemory> {
         Outcome::Infeasible => dictionary.farkas_into(&mut farkas),
         Outcome::Optimal | Outcome::Spent(_) | Outcome::Wide(_) => {},
     }
-    Ok(spent && are(&farkas, &[1, 1]))
+    let proved = are(&farkas, &[1, 1]);
+    Ok(spent && proved)
 }
 
 // Whether the rows -x <= -2 and x <= 5 with the cost x have 2 as their least, told after one pivot.
@@ -396,7 +394,9 @@ fn one_variable_costs_two<S: Scalar>(alloc: Global) -> Result<bool, NoMemory> {
         },
         Outcome::Infeasible | Outcome::Spent(_) | Outcome::Wide(_) => {},
     }
-    Ok(are(&dual, &[1, 0]) && are(&point, &[2]) && value == S::of_int(2))
+    let dual_is = are(&dual, &[1, 0]);
+    let point_is = are(&point, &[2]);
+    Ok(dual_is && point_is && value == S::of_int(2))
 }
 
 #[test]
@@ -406,6 +406,10 @@ fn programs_over_one_variable(rt: HostRuntime) -> Result<(), Fail> {
     assert!(rt; one_variable_costs_two::<Fraction>(rt.alloc())?);
     assert!(rt; one_variable_costs_two::<Narrow>(rt.alloc())?);
     Ok(())
+}
+
+fn is_point<S: Scalar>(point: &[S], x: S, y: S) -> bool {
+    point.len() == 2 && point[0] == x && point[1] == y
 }
 
 // Whether the program with x at least 10^18 comes out so under this budget, at the point x, y where it is optimal.
@@ -429,7 +433,8 @@ fn far_is<S: Scalar>(
         Outcome::Optimal => dictionary.point_into(&mut point),
         Outcome::Infeasible | Outcome::Spent(_) | Outcome::Wide(_) => {},
     }
-    Ok(answer == outcome && point[0] == x && point[1] == y)
+    let there = is_point(&point, x, y);
+    Ok(answer == outcome && there)
 }
 
 // 10^18, and 100 times as much.
