@@ -225,12 +225,9 @@ fn holds<S: Scalar>(alloc: Global, case: &Case) -> Result<bool, NoMemory> {
         Outcome::Infeasible => dictionary.farkas_into(&mut rows),
         Outcome::Spent(_) | Outcome::Wide(_) => {},
     }
-    Ok(
-        answer == case.outcome
-            && are(&rows, &case.multipliers)
-            && are(&point, &case.point)
-            && value == S::of_int(case.value),
-    )
+    let rows_are = are(&rows, &case.multipliers);
+    let point_is = are(&point, &case.point);
+    Ok(answer == case.outcome && rows_are && point_is && value == S::of_int(case.value))
 }
 
 fn outcome_is<S: Scalar>(alloc: Global, case: &Case, outcome: Outcome) -> Result<bool, NoMemory> {
@@ -373,7 +370,8 @@ fn one_variable_has_none<S: Scalar>(alloc: Global) -> Result<bool, NoMemory> {
         Outcome::Infeasible => dictionary.farkas_into(&mut farkas),
         Outcome::Optimal | Outcome::Spent(_) | Outcome::Wide(_) => {},
     }
-    Ok(spent && are(&farkas, &[1, 1]))
+    let proved = are(&farkas, &[1, 1]);
+    Ok(spent && proved)
 }
 
 // Whether the rows -x <= -2 and x <= 5 with the cost x have 2 as their least, told after one pivot.
@@ -396,7 +394,9 @@ fn one_variable_costs_two<S: Scalar>(alloc: Global) -> Result<bool, NoMemory> {
         },
         Outcome::Infeasible | Outcome::Spent(_) | Outcome::Wide(_) => {},
     }
-    Ok(are(&dual, &[1, 0]) && are(&point, &[2]) && value == S::of_int(2))
+    let dual_is = are(&dual, &[1, 0]);
+    let point_is = are(&point, &[2]);
+    Ok(dual_is && point_is && value == S::of_int(2))
 }
 
 #[test]
@@ -408,44 +408,55 @@ fn programs_over_one_variable(rt: HostRuntime) -> Result<(), Fail> {
     Ok(())
 }
 
-// The outcome of the program with x at least 10^18 under this budget, and the point where it has one.
-fn far_outcome<S: Scalar>(
+fn is_point<S: Scalar>(point: &[S], x: S, y: S) -> bool {
+    point.len() == 2 && point[0] == x && point[1] == y
+}
+
+// Whether the program with x at least 10^18 comes out so under this budget, at the point x, y where it is optimal.
+fn far_is<S: Scalar>(
     alloc: Global,
     budget: u64,
-) -> Result<Option<(Outcome, [S; 2])>, NoMemory> {
+    outcome: Outcome,
+    x: S,
+    y: S,
+) -> Result<bool, NoMemory> {
     let Ok(bound) = S::of_int(-1000000000).mul(S::of_int(1000000000)) else {
-        return Ok(None);
+        return Ok(false);
     };
     let program = FarAway { bound };
     let Some(mut dictionary) = first_of::<S, FarAway<S>>(alloc, &program, None, 0)? else {
-        return Ok(None);
+        return Ok(false);
     };
     let mut point = [S::of_int(0); 2];
-    let outcome = dictionary.solve(budget);
-    match outcome {
+    let answer = dictionary.solve(budget);
+    match answer {
         Outcome::Optimal => dictionary.point_into(&mut point),
         Outcome::Infeasible | Outcome::Spent(_) | Outcome::Wide(_) => {},
     }
-    Ok(Some((outcome, point)))
+    let there = is_point(&point, x, y);
+    Ok(answer == outcome && there)
 }
 
-// Whether y is 100 times x, and x is 10^18.
-fn is_far_point(point: [Fraction; 2]) -> bool {
-    match Fraction::of_int(1000000000).mul(Fraction::of_int(1000000000)) {
-        Ok(far) => point[0] == far && far.mul(Fraction::of_int(100)) == Ok(point[1]),
-        Err(_) => false,
+// 10^18, and 100 times as much.
+fn far_point() -> Option<(Fraction, Fraction)> {
+    let Ok(x) = Fraction::of_int(1000000000).mul(Fraction::of_int(1000000000)) else {
+        return None;
+    };
+    match x.mul(Fraction::of_int(100)) {
+        Ok(y) => Some((x, y)),
+        Err(_) => None,
     }
 }
 
 // 100 * 10^18 has no narrow parts.
 #[test]
 fn a_far_point_is_wide(rt: HostRuntime) -> Result<(), Fail> {
-    let none = [Narrow::of_int(0); 2];
-    assert!(rt; far_outcome::<Narrow>(rt.alloc(), 5)? == Some((Outcome::Wide(0), none)));
-    let start = [Fraction::of_int(0); 2];
-    assert!(rt; far_outcome::<Fraction>(rt.alloc(), 1)? == Some((Outcome::Spent(1), start)));
-    match far_outcome::<Fraction>(rt.alloc(), 2)? {
-        Some((outcome, point)) => assert!(rt; outcome == Outcome::Optimal && is_far_point(point)),
+    let none = Narrow::of_int(0);
+    assert!(rt; far_is(rt.alloc(), 5, Outcome::Wide(0), none, none)?);
+    let start = Fraction::of_int(0);
+    assert!(rt; far_is(rt.alloc(), 1, Outcome::Spent(1), start, start)?);
+    match far_point() {
+        Some((x, y)) => assert!(rt; far_is(rt.alloc(), 2, Outcome::Optimal, x, y)?),
         None => assert!(rt; false),
     }
     Ok(())
