@@ -1,0 +1,4 @@
+pub mod Mates
+pub mod Contents
+pub mod Shapes
+pub mod Building
