@@ -13,3 +13,5 @@ pub mod MergeTerms
 pub mod FormLaws
 pub mod Places
 pub mod Edits
+pub mod Reckonings
+pub mod Nothing

@@ -4,3 +4,4 @@ pub mod Limits
 pub mod Scalars
 pub mod Ids
 pub mod Forms
+pub mod Reckonings

@@ -4,15 +4,18 @@
 //! width, and no result is ever rounded.
 #![tactic(auto)]
 
+mod arithmetic;
 mod faults;
 mod forms;
 mod fractions;
 mod id_vec;
 mod ids;
 mod reckoning;
+pub mod reckoning_laws;
 mod scalars;
 mod terms;
 
+pub use arithmetic::{add_product, is_at_most, is_below, is_negative, is_positive};
 pub use faults::{FormFault, NoMemory};
 pub use forms::Form;
 pub use fractions::{Fraction, Narrow};

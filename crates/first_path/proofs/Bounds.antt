@@ -1,10 +1,17 @@
 -- A margin and the bound that it is the margin of.
-use Rattle.std.proofs.Common.{◌≡◌, ◌↔◌, IsTrue, refl, subst, Bool, [], ◌∷◌}
-use Rattle.rational.specs.Rational.{ℚ, zeroℚ, ◌+ℚ◌, neg_ℚ, ◌≤ℚ◌}
+use Rattle.std.proofs.Common.{◌≡◌, ◌↔◌, IsTrue, refl, subst, Bool, true, false, not, [], ◌∷◌}
+use Rattle.std.specs.Bool.{MatchBool}
+use Rattle.rational.specs.Rational.{ℚ, zeroℚ, ◌+ℚ◌, neg_ℚ, ◌<ℚ◌, ◌≤ℚ◌}
 use Rattle.rational.proofs.Ring.{minus, ◌⊕◌, num, ◌≼◌, ◌≐◌}
 use Rattle.rational.proofs.Solve.{◌⊢◌, linear}
 use Rattle.rational.proofs.Order.{ℚ_ordered}
+use Rattle.rational.proofs.Inequalities.{lt_not_leℚ}
 use Rattle.exact_lin.specs.Reckoning.{wide_limit, CanAdd}
+
+-- a number that isn't below 0 is at least 0
+pub not_negative : (negative : Bool) (x : ℚ) → MatchBool negative (x <ℚ zeroℚ) (zeroℚ ≤ℚ x × ¬ (x <ℚ zeroℚ)) → IsTrue (not negative) ↔ (zeroℚ ≤ℚ x)
+not_negative true x h = (λ t. cc, λ le. absurd (lt_not_leℚ x zeroℚ h le))
+not_negative false x h = (λ t. h.0, λ le. refl)
 
 pub below_met : (limit value negative margin : ℚ) (met : Bool) → negative ≡ neg_ℚ value → CanAdd wide_limit limit negative → margin ≡ limit +ℚ negative
     → IsTrue met ↔ (zeroℚ ≤ℚ margin) → CanAdd wide_limit limit (neg_ℚ value) × (IsTrue met ↔ (value ≤ℚ limit))

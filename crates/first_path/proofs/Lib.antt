@@ -11,3 +11,4 @@ pub mod Uniqueness
 pub mod ProblemReading
 pub mod DomainUniqueness
 pub mod TaskUniqueness
+pub mod SameProblem

@@ -14,7 +14,9 @@ use Rattle.first_path.specs.declared.model.PlanLine.{PlanLine}
 use Rattle.first_path.specs.Meaning.{end_of, slope, run_time, value_at, last_time, Meets}
 use Rattle.first_path.specs.declared.model.Rules.{Rules}
 use Rattle.first_path.specs.Validity.{HoldsOverAll}
-use Rattle.first_path.specs.Course.{sum, AreDefined, margin, forward_start, leg_reckonings}
+use Rattle.exact_lin.specs.Reckoning.{wide_limit}
+use Rattle.exact_lin.specs.Reckonings.{Sum, AreDefined}
+use Rattle.first_path.specs.Course.{margin, forward_start, leg_reckonings}
 use Rattle.first_path.proofs.Segments.{moved, OnSideAtEnds, OnSideBetween, segment}
 
 pub start-before_end : (l : PlanLine) → zeroℚ <ℚ l.duration → l.start <ℚ end_of l
@@ -85,11 +87,11 @@ leg_over_all-is task l rate end h e f = subst (λ z. (Meets task.over_all task.i
     (ap₂ (λ (r t : ℚ). moved task.initial r l.start t) (sym e) (sym f)) (over_all-at_ends task l h)
 
 -- a list of reckonings at equal numbers
-pub tick-at : (rules : Rules) (t u : ℚ) → t ≡ u → AreDefined (sum t rules.epsilon ∷ []) → AreDefined (sum u rules.epsilon ∷ [])
-tick-at rules t u e d = subst (λ (z : ℚ). AreDefined (sum z rules.epsilon ∷ [])) e d
+pub tick-at : (rules : Rules) (t u : ℚ) → t ≡ u → AreDefined wide_limit (Sum t rules.epsilon ∷ []) → AreDefined wide_limit (Sum u rules.epsilon ∷ [])
+tick-at rules t u e d = subst (λ (z : ℚ). AreDefined wide_limit (Sum z rules.epsilon ∷ [])) e d
 
-pub goal-at : (b : Bound) (v w : ℚ) → v ≡ w → AreDefined (margin b v ∷ []) → AreDefined (margin b w ∷ [])
-goal-at b v w e d = subst (λ (z : ℚ). AreDefined (margin b z ∷ [])) e d
+pub goal-at : (b : Bound) (v w : ℚ) → v ≡ w → AreDefined wide_limit (margin b v ∷ []) → AreDefined wide_limit (margin b w ∷ [])
+goal-at b v w e d = subst (λ (z : ℚ). AreDefined wide_limit (margin b z ∷ [])) e d
 
 pub met-at : (b : Bound) (met : Bool) (v w : ℚ) → v ≡ w → IsTrue met ↔ Meets b v → IsTrue met ↔ Meets b w
 met-at b met v w e d = subst (λ (z : ℚ). IsTrue met ↔ Meets b z) e d

@@ -1,5 +1,5 @@
--- A plan has one verdict, and a course one first undefined place.
-use Rattle.std.proofs.Common.{◌≡◌, refl, sym, ◌∙◌, ap, ap₂, List, [], ◌∷◌, inl, inr}
+-- A plan has one verdict.
+use Rattle.std.proofs.Common.{◌≡◌, refl, sym, ◌∙◌, ap, ap₂}
 use Rattle.first_path.specs.declared.model.Task.{Task}
 use Rattle.first_path.specs.declared.model.PlanLine.{PlanLine}
 use Rattle.first_path.specs.declared.model.Rules.{Rules}
@@ -7,9 +7,7 @@ use Rattle.first_path.specs.declared.model.Reason.{Reason}
 use Rattle.first_path.specs.declared.model.Reason.TheVariants.{Time, Duration, OverAll, Goal}
 use Rattle.first_path.specs.declared.model.Verdict.{Verdict}
 use Rattle.first_path.specs.declared.model.Verdict.TheVariants.{Valid, Invalid}
-use Rattle.first_path.specs.declared.model.Undefined.{Undefined}
 use Rattle.first_path.specs.Validity.{IsValid, IsFirstReason, IsRight}
-use Rattle.first_path.specs.Course.{Stage, IsReckoned, IsFirstUndefined}
 
 pub reason-not_valid : (rules : Rules) (task : Task) (l : PlanLine) (r : Reason) → IsFirstReason rules task l r → ¬ (IsValid rules task l)
 reason-not_valid rules task l Time h v = h v.in_time
@@ -40,15 +38,3 @@ verdicts-one rules task l (Valid c) (Valid d) h k = ap Valid (h.1 ∙ sym k.1)
 verdicts-one rules task l (Valid c) (Invalid s) h k = absurd (reason-not_valid rules task l s k h.0)
 verdicts-one rules task l (Invalid r) (Valid d) h k = absurd (reason-not_valid rules task l r h k.0)
 verdicts-one rules task l (Invalid r) (Invalid s) h k = ap Invalid (reasons-one rules task l r s h k)
-
-pub place-not_reckoned : (ss : List Stage) (p : Undefined) → IsFirstUndefined ss p → ¬ (IsReckoned ss)
-place-not_reckoned [] p h r = h
-place-not_reckoned (s ∷ ss) p (inl h) r = h.0 r.0
-place-not_reckoned (s ∷ ss) p (inr h) r = place-not_reckoned ss p h.1 r.1
-
-pub places-one : (ss : List Stage) (p q : Undefined) → IsFirstUndefined ss p → IsFirstUndefined ss q → p ≡ q
-places-one [] p q h k = absurd h
-places-one (s ∷ ss) p q (inl h) (inl k) = h.1 ∙ sym k.1
-places-one (s ∷ ss) p q (inl h) (inr k) = absurd (h.0 k.0)
-places-one (s ∷ ss) p q (inr h) (inl k) = absurd (k.0 h.0)
-places-one (s ∷ ss) p q (inr h) (inr k) = places-one ss p q h.1 k.1

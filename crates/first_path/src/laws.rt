@@ -1,18 +1,12 @@
 //! What holds of every task and every plan.
 
 ghost use Rattle.std.specs.Prelude.{◌≡◌};
-ghost use Rattle.first_path.specs.Laws.{ReasonsExcludeValidity, VerdictsAreOne, PlacesAreOne, PlacesExcludeReckoning, DomainsAreOne, TasksAreOne};
+ghost use Rattle.first_path.specs.Laws.{ReasonsExcludeValidity, VerdictsAreOne, DomainsAreOne, TasksAreOne};
 
 /// A plan has one verdict at most: it is not both valid and invalid, and has one first reason.
 pub fn verdicts_are_one()
     ensures exclusive { ReasonsExcludeValidity }
     ensures one { VerdictsAreOne }
-{}
-
-/// A course is reckoned whole, or has one first place where it is not.
-pub fn places_are_one()
-    ensures exclusive { PlacesExcludeReckoning }
-    ensures one { PlacesAreOne }
 {}
 
 /// A text is one domain at most, and one problem of a domain at most.

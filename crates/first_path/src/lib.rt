@@ -15,7 +15,7 @@ mod validator;
 
 pub use domain::read_domain;
 pub use domains::Domain;
-pub use laws::{places_are_one, texts_are_one, verdicts_are_one};
+pub use laws::{texts_are_one, verdicts_are_one};
 pub use model::{Bound, Direction, PlanLine, Reason, Rules, Side, Task, Undefined, Verdict};
 pub use problem::read_problem;
 pub use validator::validate;

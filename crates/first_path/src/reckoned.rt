@@ -5,7 +5,9 @@ ghost use Rattle.rational.specs.Rational.{zeroℚ, ◌+ℚ◌, ◌*ℚ◌, ◌-�
 ghost use Rattle.first_path.specs.declared.model.Undefined.TheVariants.{Line, Happening};
 ghost use Rattle.first_path.specs.Meaning.{Meets, end_of, value_at, last_time, slope};
 ghost use Rattle.first_path.specs.Validity.{HoldsOverAll};
-ghost use Rattle.first_path.specs.Course.{sum, IsDefined, AreDefined, move, margin, forward_start, leg_reckonings, backward_start, IsReckoned, IsFirstUndefined, course, stages, run_forward, stand_still, run_backward, Tells};
+ghost use Rattle.exact_lin.specs.Reckoning.{wide_limit};
+ghost use Rattle.exact_lin.specs.Reckonings.{Sum, IsDefined, AreDefined, AllDefined, IsFirstUndefined};
+ghost use Rattle.first_path.specs.Course.{move, margin, forward_start, leg_reckonings, backward_start, course, stages, run_forward, stand_still, run_backward, Tells};
 
 use crate::model::{Bound, PlanLine, Rules, Task, Undefined};
 use crate::numbers::{is_met, slope_of};
@@ -29,7 +31,7 @@ struct Leg {
 
 // The value after a move at this rate from one happening to the next.
 fn moved(value: Fraction, rate: Fraction, from: Fraction, to: Fraction) -> Result<Fraction, Wide>
-    ensures { MatchResult result (λ after. AreDefined (move value rate from to) × (after ≡ value +ℚ rate *ℚ (to -ℚ from))) (λ _. ¬ (AreDefined (move value rate from to))) }
+    ensures { MatchResult result (λ after. AreDefined wide_limit (move value rate from to) × (after ≡ value +ℚ rate *ℚ (to -ℚ from))) (λ _. ¬ (AreDefined wide_limit (move value rate from to))) }
 {
     let elapsed = to.add(from.neg())?;
     let change = rate.mul(elapsed)?;
@@ -38,7 +40,7 @@ fn moved(value: Fraction, rate: Fraction, from: Fraction, to: Fraction) -> Resul
 
 // The time from which a step that clashes with this one may come.
 fn tick(rules: &Rules, time: Fraction) -> Result<Fraction, Wide>
-    ensures { MatchResult result (λ _. IsDefined (sum time rules.now.epsilon)) (λ _. ¬ (IsDefined (sum time rules.now.epsilon))) }
+    ensures { MatchResult result (λ _. IsDefined wide_limit (Sum time rules.now.epsilon)) (λ _. ¬ (IsDefined wide_limit (Sum time rules.now.epsilon))) }
 {
     time.add(rules.epsilon)
 }
@@ -51,7 +53,7 @@ fn run_to_end(
     from: Fraction,
     to: Fraction,
 ) -> Result<Leg, Wide>
-    ensures { let value = task.now.initial +ℚ rate *ℚ (to -ℚ from) in MatchResult result (λ leg. AreDefined (forward_start rules.now task.now rate from to task.now.initial value) × (leg.after ≡ value) × (IsTrue leg.over_all ↔ (Meets task.now.over_all task.now.initial × Meets task.now.over_all value))) (λ _. ¬ (AreDefined (forward_start rules.now task.now rate from to task.now.initial value))) }
+    ensures { let value = task.now.initial +ℚ rate *ℚ (to -ℚ from) in MatchResult result (λ leg. AreDefined wide_limit (forward_start rules.now task.now rate from to task.now.initial value) × (leg.after ≡ value) × (IsTrue leg.over_all ↔ (Meets task.now.over_all task.now.initial × Meets task.now.over_all value))) (λ _. ¬ (AreDefined wide_limit (forward_start rules.now task.now rate from to task.now.initial value))) }
 {
     let _ = tick(rules, from)?;
     let after = moved(task.initial, rate, from, to)?;
@@ -67,7 +69,7 @@ fn run_to_end(
 fn leg_of(rules: &Rules, task: &Task, line: &PlanLine, end: Fraction) -> Result<Leg, Undefined>
     requires runs { zeroℚ <ℚ line.now.duration }
     requires end { end ≡ end_of line.now }
-    ensures { MatchResult result (λ leg. AreDefined (leg_reckonings rules.now task.now line.now) × (leg.after ≡ value_at task.now line.now (last_time line.now)) × (IsTrue leg.over_all ↔ HoldsOverAll task.now line.now)) (λ place. ¬ (AreDefined (leg_reckonings rules.now task.now line.now)) × (place ≡ Happening 0)) }
+    ensures { MatchResult result (λ leg. AreDefined wide_limit (leg_reckonings rules.now task.now line.now) × (leg.after ≡ value_at task.now line.now (last_time line.now)) × (IsTrue leg.over_all ↔ HoldsOverAll task.now line.now)) (λ place. ¬ (AreDefined wide_limit (leg_reckonings rules.now task.now line.now)) × (Happening 0 ≡ place)) }
 {
     match run_to_end(
         rules,
@@ -82,7 +84,7 @@ fn leg_of(rules: &Rules, task: &Task, line: &PlanLine, end: Fraction) -> Result<
 }
 
 fn tick_at(happening: u32, rules: &Rules, time: Fraction) -> Result<(), Undefined>
-    ensures { MatchResult result (λ _. AreDefined (sum time rules.now.epsilon ∷ [])) (λ place. ¬ (AreDefined (sum time rules.now.epsilon ∷ [])) × (place ≡ Happening happening)) }
+    ensures { MatchResult result (λ _. AreDefined wide_limit (Sum time rules.now.epsilon ∷ [])) (λ place. ¬ (AreDefined wide_limit (Sum time rules.now.epsilon ∷ [])) × (Happening happening ≡ place)) }
 {
     match tick(rules, time) {
         Ok(_) => Ok(()),
@@ -91,7 +93,7 @@ fn tick_at(happening: u32, rules: &Rules, time: Fraction) -> Result<(), Undefine
 }
 
 fn goal_at(happening: u32, goal: &Bound, value: Fraction) -> Result<bool, Undefined>
-    ensures { MatchResult result (λ met. AreDefined (margin goal.now value ∷ []) × (IsTrue met ↔ Meets goal.now value)) (λ place. ¬ (AreDefined (margin goal.now value ∷ [])) × (place ≡ Happening happening)) }
+    ensures { MatchResult result (λ met. AreDefined wide_limit (margin goal.now value ∷ []) × (IsTrue met ↔ Meets goal.now value)) (λ place. ¬ (AreDefined wide_limit (margin goal.now value ∷ [])) × (Happening happening ≡ place)) }
 {
     match is_met(goal, value) {
         Ok(met) => Ok(met),
@@ -103,7 +105,7 @@ fn goal_at(happening: u32, goal: &Bound, value: Fraction) -> Result<bool, Undefi
 fn forward(rules: &Rules, task: &Task, line: &PlanLine, end: Fraction) -> Result<Course, Undefined>
     requires runs { zeroℚ <ℚ line.now.duration }
     requires end { end ≡ end_of line.now }
-    ensures { MatchResult result (λ c. IsReckoned (run_forward rules.now task.now line.now) × Tells task.now line.now c) (λ place. IsFirstUndefined (run_forward rules.now task.now line.now) place) }
+    ensures { MatchResult result (λ c. AllDefined wide_limit (run_forward rules.now task.now line.now) × Tells task.now line.now c) (λ place. IsFirstUndefined wide_limit (run_forward rules.now task.now line.now) place) }
 {
     let leg = leg_of(rules, task, line, end)?;
     tick_at(1, rules, end)?;
@@ -120,7 +122,7 @@ fn forward(rules: &Rules, task: &Task, line: &PlanLine, end: Fraction) -> Result
 fn still(rules: &Rules, task: &Task, line: &PlanLine, end: Fraction) -> Result<Course, Undefined>
     requires still { line.now.duration ≤ℚ zeroℚ }
     requires end { end ≡ end_of line.now }
-    ensures { MatchResult result (λ c. IsReckoned (stand_still rules.now task.now line.now) × Tells task.now line.now c) (λ place. IsFirstUndefined (stand_still rules.now task.now line.now) place) }
+    ensures { MatchResult result (λ c. AllDefined wide_limit (stand_still rules.now task.now line.now) × Tells task.now line.now c) (λ place. IsFirstUndefined wide_limit (stand_still rules.now task.now line.now) place) }
 {
     tick_at(0, rules, line.start)?;
     let goal = goal_at(1, &task.goal, task.initial)?;
@@ -134,7 +136,7 @@ fn still(rules: &Rules, task: &Task, line: &PlanLine, end: Fraction) -> Result<C
 
 // The happening at the end of an action that ends before its start, and the move to its start.
 fn step_back(rules: &Rules, task: &Task, line: &PlanLine, end: Fraction) -> Result<(), Wide>
-    ensures { MatchResult result (λ _. AreDefined (backward_start rules.now task.now end line.now.start)) (λ _. ¬ (AreDefined (backward_start rules.now task.now end line.now.start))) }
+    ensures { MatchResult result (λ _. AreDefined wide_limit (backward_start rules.now task.now end line.now.start)) (λ _. ¬ (AreDefined wide_limit (backward_start rules.now task.now end line.now.start))) }
 {
     let _ = tick(rules, end)?;
     let _ = moved(task.initial, Fraction::of_int(0), end, line.start)?;
@@ -143,7 +145,7 @@ fn step_back(rules: &Rules, task: &Task, line: &PlanLine, end: Fraction) -> Resu
 
 fn step_back_at(rules: &Rules, task: &Task, line: &PlanLine, end: Fraction) -> Result<(), Undefined>
     requires { end ≡ end_of line.now }
-    ensures { MatchResult result (λ _. AreDefined (backward_start rules.now task.now (end_of line.now) line.now.start)) (λ place. ¬ (AreDefined (backward_start rules.now task.now (end_of line.now) line.now.start)) × (place ≡ Happening 0)) }
+    ensures { MatchResult result (λ _. AreDefined wide_limit (backward_start rules.now task.now (end_of line.now) line.now.start)) (λ place. ¬ (AreDefined wide_limit (backward_start rules.now task.now (end_of line.now) line.now.start)) × (Happening 0 ≡ place)) }
 {
     match step_back(rules, task, line, end) {
         Ok(()) => Ok(()),
@@ -155,7 +157,7 @@ fn step_back_at(rules: &Rules, task: &Task, line: &PlanLine, end: Fraction) -> R
 fn backward(rules: &Rules, task: &Task, line: &PlanLine, end: Fraction) -> Result<Course, Undefined>
     requires never { line.now.duration ≤ℚ zeroℚ }
     requires end { end ≡ end_of line.now }
-    ensures { MatchResult result (λ c. IsReckoned (run_backward rules.now task.now line.now) × Tells task.now line.now c) (λ place. IsFirstUndefined (run_backward rules.now task.now line.now) place) }
+    ensures { MatchResult result (λ c. AllDefined wide_limit (run_backward rules.now task.now line.now) × Tells task.now line.now c) (λ place. IsFirstUndefined wide_limit (run_backward rules.now task.now line.now) place) }
 {
     step_back_at(rules, task, line, end)?;
     tick_at(1, rules, line.start)?;
@@ -170,7 +172,7 @@ fn backward(rules: &Rules, task: &Task, line: &PlanLine, end: Fraction) -> Resul
 
 // The place of the plan line is its end.
 fn end_of_line(line: &PlanLine) -> Result<Fraction, Undefined>
-    ensures { MatchResult result (λ end. AreDefined (sum line.now.start line.now.duration ∷ []) × (end ≡ end_of line.now)) (λ place. ¬ (AreDefined (sum line.now.start line.now.duration ∷ [])) × (place ≡ Line)) }
+    ensures { MatchResult result (λ end. AreDefined wide_limit (Sum line.now.start line.now.duration ∷ []) × (end ≡ end_of line.now)) (λ place. ¬ (AreDefined wide_limit (Sum line.now.start line.now.duration ∷ [])) × (Line ≡ place)) }
 {
     match line.start.add(line.duration) {
         Ok(end) => Ok(end),
@@ -186,7 +188,7 @@ fn happenings(
     end: Fraction,
 ) -> Result<Course, Undefined>
     requires { end ≡ end_of line.now }
-    ensures { MatchResult result (λ c. IsReckoned (stages rules.now task.now line.now) × Tells task.now line.now c) (λ place. IsFirstUndefined (stages rules.now task.now line.now) place) }
+    ensures { MatchResult result (λ c. AllDefined wide_limit (stages rules.now task.now line.now) × Tells task.now line.now c) (λ place. IsFirstUndefined wide_limit (stages rules.now task.now line.now) place) }
 {
     match Fraction::of_int(0).cmp(line.duration) {
         Ordering::Less => forward(rules, task, line, end),
@@ -197,7 +199,7 @@ fn happenings(
 
 /// The whole course, or the first place where a reckoning is not defined.
 pub fn reckon(rules: &Rules, task: &Task, line: &PlanLine) -> Result<Course, Undefined>
-    ensures { MatchResult result (λ c. IsReckoned (course rules.now task.now line.now) × Tells task.now line.now c) (λ place. IsFirstUndefined (course rules.now task.now line.now) place) }
+    ensures { MatchResult result (λ c. AllDefined wide_limit (course rules.now task.now line.now) × Tells task.now line.now c) (λ place. IsFirstUndefined wide_limit (course rules.now task.now line.now) place) }
 {
     let end = end_of_line(line)?;
     happenings(rules, task, line, end)

@@ -3,12 +3,13 @@
 ghost use Rattle.std.specs.Prelude.{◌≡◌, ◌↔◌, IsTrue, MatchResult, IfOk};
 ghost use Rattle.rational.specs.Rational.{zeroℚ, ◌<ℚ◌};
 ghost use Rattle.first_path.specs.Validity.{IsInTime, StaysInTime, FitsDuration, IsRight};
-ghost use Rattle.first_path.specs.Course.{IsReckoned, IsFirstUndefined, course, Tells};
+ghost use Rattle.exact_lin.specs.Reckoning.{wide_limit};
+ghost use Rattle.exact_lin.specs.Reckonings.{AllDefined, IsFirstUndefined};
+ghost use Rattle.first_path.specs.Course.{course, Tells};
 
 use crate::model::{PlanLine, Reason, Rules, Task, Undefined, Verdict};
-use crate::numbers::is_at_most;
 use crate::reckoned::{Course, reckon};
-use exact_lin::{Fraction, Scalar};
+use exact_lin::{Fraction, Scalar, is_at_most};
 
 fn is_in_time(rules: &Rules, time: Fraction) -> bool
     ensures { IsTrue result ↔ IsInTime rules.now time }
@@ -52,7 +53,7 @@ fn judge(rules: &Rules, task: &Task, line: &PlanLine, course: Course) -> Verdict
 /// where there is such a place.
 pub fn validate(rules: &Rules, task: &Task, line: &PlanLine) -> Result<Verdict, Undefined>
     requires { zeroℚ <ℚ rules.now.epsilon }
-    ensures { MatchResult result (λ verdict. IsReckoned (course rules.now task.now line.now) × IsRight rules.now task.now line.now verdict) (λ place. IsFirstUndefined (course rules.now task.now line.now) place) }
+    ensures { MatchResult result (λ verdict. AllDefined wide_limit (course rules.now task.now line.now) × IsRight rules.now task.now line.now verdict) (λ place. IsFirstUndefined wide_limit (course rules.now task.now line.now) place) }
 {
     let course = reckon(rules, task, line)?;
     Ok(judge(rules, task, line, course))

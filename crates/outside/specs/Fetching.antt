@@ -1,4 +1,4 @@
--- What a desk answers when a file is asked of it.
+-- Believed: what a desk answers when a file is asked of it.
 use Rattle.std.specs.Prelude.{◌≡◌, ℕ, ◌+◌, ◌<◌, ◌≤◌, List, length, Option, Some, IfSome, Result, Ok, Err, Vec}
 use Rattle.std.specs.Option.{IsSomeAnd}
 use Rattle.std.specs.declared.alloc.Global.{Global}

@@ -1,4 +1,4 @@
--- What the adapters over the machine answer.
+-- Believed: what the adapters over the machine tell, and what their private reads and writes give.
 use Rattle.std.specs.Prelude.{◌≡◌, take, IfSome, ℕ, ◌<◌, ◌≤◌, List, [], length, Option, Some, None, Result, Ok, Err, Vec, String, string_bytes}
 use Rattle.std.specs.declared.alloc.Global.{Global}
 use Rattle.std.specs.Io.KnownBytes.{Appends}

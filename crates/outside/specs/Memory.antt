@@ -1,4 +1,4 @@
--- What a desk and a sink in memory hold.
+-- Believed: what a desk and a sink in memory hold, and what is due at their next call.
 use Rattle.std.specs.Prelude.{◌≡◌, ◌==◌, ◌||◌, ℕ, ◌+◌, ◌-◌, ◌^◌, min, Bool, List, [], ◌∷◌, ◌++◌, length, map, take, if◌then◌else◌, Option, Some, None, is_some, unwrap_or, Vec, String, string_bytes, nat_lt, Ok, Err, refl}
 use Rattle.std.specs.List.{list_any}
 use Rattle.std.specs.Ordering.{nat_cmp}

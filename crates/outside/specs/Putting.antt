@@ -1,4 +1,4 @@
--- What a sink holds after a piece was put into it.
+-- Believed: what a sink holds after a piece was put into it.
 use Rattle.std.specs.Prelude.{◌≡◌, ℕ, ◌+◌, List, ◌++◌, take, Option, option_map, Result, Ok, Err}
 
 -- what is told of a sink

@@ -1,3 +1,5 @@
+//! Desks: what hands over whole files by their names.
+
 ghost use Rattle.std.specs.Prelude.{◌≡◌, ◌<◌, ◌^◌, ◌-◌};
 ghost use Rattle.outside.specs.Fetching.{DeskView, answer_of, MayAnswer, desk_after};
 ghost use Rattle.outside.specs.declared.desk.Fetch.TheVariants.{Memory};

@@ -1,3 +1,5 @@
+//! The desk and the sink over the files and the standard output of the machine.
+
 ghost use Rattle.std.specs.Prelude.{◌≡◌, ◌≤◌, [], None, IfOk};
 ghost use Rattle.outside.specs.Host.{IsWithinLimit, GivesWhole, HoldsMore};
 
@@ -53,15 +55,22 @@ fn read_whole<F: Read + Drop>(alloc: Global, file: F) -> Result<Vec<u8>, Fetch>
     }
 }
 
+// The bytes of the file at a path.
+fn read_file<R: Files>(rt: &R, alloc: Global, path: &str) -> Result<Vec<u8>, Fetch>
+    ensures { IsWithinLimit result }
+{
+    match fs::open(rt, path) {
+        Ok(file) => read_whole(alloc, file),
+        Err(_) => Err(Fetch::Failed),
+    }
+}
+
 impl<R: Files> Desk for HostDesk<'_, R> {
     ghost told = { λ d. record { files = None; faults = d.faults; fault_name = d.fault_name } };
 
     fn fetch(&mut self, alloc: Global, name: &str) -> Result<Vec<u8>, Fetch> {
         let asked = String::from_str(alloc, name)?;
-        let result = match fs::open(self.rt, name) {
-            Ok(file) => read_whole(alloc, file),
-            Err(_) => Err(Fetch::Failed),
-        };
+        let result = read_file(self.rt, alloc, name);
         if let Err(Fetch::Failed) = result {
             self.faults += 1;
             self.fault_name = Some(asked);
@@ -184,6 +193,10 @@ mod tests {
         }
     }
 
+    fn read_len(rt: &HostRuntime, left: &[Option<ErrorKind>]) -> Result<usize, Fetch> {
+        read_whole(rt.alloc(), Turns { left }).map(|bytes| bytes.len())
+    }
+
     #[test]
     fn an_interruption_is_tried_again(rt: HostRuntime) {
         let again = Some(ErrorKind::Interrupted);
@@ -199,8 +212,7 @@ mod tests {
             (&[None], Ok(1), Err(Failed)),
         ];
         for (left, read, written) in cases {
-            let got = read_whole(rt.alloc(), Turns { left });
-            assert_eq!(rt; got.map(|bytes| bytes.len()), read);
+            assert_eq!(rt; read_len(&rt, left), read);
             assert_eq!(rt; write_whole(&mut Turns { left }, b"ab"), written);
         }
     }

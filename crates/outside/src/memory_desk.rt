@@ -1,7 +1,9 @@
+//! A desk of files in memory.
+
 ghost use Rattle.std.specs.Prelude.{◌≡◌, ◌∷◌, [], ◌++◌, ◌<◌, ◌^◌, ◌-◌, Some, option_map, OnOk, OnErr};
 ghost use Rattle.std.specs.FinMap as map;
 ghost use Rattle.outside.specs.Fetching.{answer_of, MayAnswer, desk_after};
-ghost use Rattle.outside.specs.Memory.{files_of, due, IsDue, memory_desk_after, told_by_memory_desk};
+ghost use Rattle.outside.specs.Memory.{files_of, due, IsDue, whole_file, memory_desk_after, told_by_memory_desk};
 
 use crate::desk::{Desk, Fetch, LONGEST_FILE};
 use std::alloc::{AllocError, Global};
@@ -41,6 +43,16 @@ fn find_file<'a>(files: &'a BTreeMap<String, Vec<u8>>, name: &str) -> Option<&'a
     ensures { option_map (λ bytes. bytes.now.items) result ≡ map.get (files_of files.entry.now) name.now }
 {
     files.get(name)
+}
+
+// The bytes of a file, where it isn't too long.
+fn copy_file(alloc: Global, bytes: &[u8]) -> Result<Vec<u8>, Fetch>
+    ensures { IsDue (whole_file (Some bytes.now)) (answer_of result) }
+{
+    if bytes.len() > LONGEST_FILE {
+        return Err(Fetch::Long(bytes.len() as u64));
+    }
+    Ok(Vec::from_slice(alloc, bytes)?)
 }
 
 impl MemoryDesk {
@@ -102,12 +114,7 @@ impl Desk for MemoryDesk {
         let asked = String::from_str(alloc, name)?;
         let listed = self.failing.contains(&self.calls);
         match find_file(&self.files, name) {
-            Some(bytes) if !listed => {
-                if bytes.len() > LONGEST_FILE {
-                    return Err(Fetch::Long(bytes.len() as u64));
-                }
-                Ok(Vec::from_slice(alloc, bytes)?)
-            }
+            Some(bytes) if !listed => copy_file(alloc, bytes),
             _ => {
                 self.faults += 1;
                 self.fault_name = asked;

@@ -1,3 +1,5 @@
+//! A sink in memory.
+
 ghost use Rattle.std.specs.Prelude.{◌≡◌, ◌∷◌, [], ◌++◌, ◌<◌, ◌^◌, ◌-◌, not, is_ok, IfOk, OnOk, OnErr};
 ghost use Rattle.outside.specs.Memory.{listed, put_fails, memory_sink_after, told_by_memory_sink};
 ghost use Rattle.outside.specs.Putting.{Took};

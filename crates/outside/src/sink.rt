@@ -1,3 +1,5 @@
+//! Sinks: what takes pieces of bytes.
+
 ghost use Rattle.std.specs.Prelude.{◌<◌, ◌^◌, ◌-◌};
 ghost use Rattle.outside.specs.Putting.{SinkView, Took};
 

@@ -1,4 +1,6 @@
-use crate::{Desk, Failed, Fetch, HostDesk, HostSink, LONGEST_FILE, MemoryDesk, MemorySink, Sink};
+//! A desk and a sink in memory that fail where they are told to, and those over the machine.
+
+use crate::{Desk, Fetch, HostDesk, HostSink, LONGEST_FILE, MemoryDesk, MemorySink, Sink};
 use std::alloc::{AllocError, Global};
 use std::fs;
 use std::test::Fail;
@@ -7,18 +9,46 @@ fn blank_file(alloc: Global, len: usize) -> Result<Vec<u8>, AllocError> {
     vec![in alloc; b' '; len]
 }
 
-#[test]
-fn memory_objects_fail_where_they_are_told_to(rt: HostRuntime) -> Result<(), Fail> {
-    let alloc = rt.alloc();
-    let mut desk = MemoryDesk::new(alloc);
+// Two files, one of them added twice.
+fn add_files(desk: &mut MemoryDesk) -> Result<(), AllocError> {
     desk.add("file", b"older")?;
     desk.add("other", b"")?;
-    desk.add("file", b"new")?;
+    desk.add("file", b"new")
+}
+
+fn add_long_files(desk: &mut MemoryDesk, alloc: Global) -> Result<(), AllocError> {
     desk.add("longest", &blank_file(alloc, LONGEST_FILE)?)?;
-    desk.add("longer", &blank_file(alloc, LONGEST_FILE + 1)?)?;
+    desk.add("longer", &blank_file(alloc, LONGEST_FILE + 1)?)
+}
+
+// A desk with four files, whose second, fourth and ninth fetches fail.
+fn some_desk(alloc: Global) -> Result<MemoryDesk, AllocError> {
+    let mut desk = MemoryDesk::new(alloc);
+    add_files(&mut desk)?;
+    add_long_files(&mut desk, alloc)?;
     for call in [4, 2, 9, 4] {
         desk.fail_at(call)?;
     }
+    Ok(desk)
+}
+
+// Whether the next fetch hands over so many bytes, or fails so, and how many have failed then.
+fn fetches(
+    desk: &mut MemoryDesk,
+    alloc: Global,
+    name: &str,
+    want: Result<usize, Fetch>,
+    faults: u64,
+) -> bool {
+    desk.faults() < 9
+        && desk.fetch(alloc, name).map(|bytes| bytes.len()) == want
+        && desk.faults() == faults
+}
+
+#[test]
+fn memory_desks_fail_where_they_are_told_to(rt: HostRuntime) -> Result<(), Fail> {
+    let alloc = rt.alloc();
+    let mut desk = some_desk(alloc)?;
     for (name, want, faults) in [
         ("file", Ok(3), 0),
         ("file", Err(Fetch::Failed), 1),
@@ -30,42 +60,64 @@ fn memory_objects_fail_where_they_are_told_to(rt: HostRuntime) -> Result<(), Fai
         ("file", Ok(3), 3),
         ("longer", Err(Fetch::Failed), 4),
     ] {
-        assert!(rt; desk.faults() < 9);
-        let got = desk.fetch(alloc, name).map(|bytes| bytes.len());
-        assert_eq!(rt; got, want, "{name}");
-        assert_eq!(rt; desk.faults(), faults, "{name}");
+        assert!(rt; fetches(&mut desk, alloc, name, want, faults), "{name}");
     }
+    Ok(())
+}
 
+fn some_sink(alloc: Global) -> Result<MemorySink, AllocError> {
     let mut sink = MemorySink::new(alloc, 12)?;
     for (call, taken) in [(5, 1), (2, 1), (3, 99), (3, 0), (7, 3)] {
         sink.fail_at(call, taken)?;
     }
-    for (piece, want, bytes) in [
-        ("abc", Ok(()), "abc"),
-        ("def", Err(Failed), "abcd"),
-        ("ef", Err(Failed), "abcdef"),
-        ("", Ok(()), "abcdef"),
-        ("", Err(Failed), "abcdef"),
-        ("ghij", Ok(()), "abcdefghij"),
-        ("klmn", Err(Failed), "abcdefghijkl"),
-        ("m", Err(Failed), "abcdefghijkl"),
-        ("", Ok(()), "abcdefghijkl"),
-    ] {
-        assert!(rt; sink.puts() < 9);
-        assert_eq!(rt; sink.put(piece.as_bytes()), want, "{piece}");
-        assert_eq!(rt; sink.bytes(), bytes.as_bytes(), "{piece}");
-    }
-    assert_eq!(rt; sink.puts(), 9);
-    assert_eq!(rt; sink.faults(), 5);
-    Ok(())
+    Ok(sink)
+}
+
+// Whether the next put is taken or not, and what the sink holds then.
+fn takes(sink: &mut MemorySink, piece: &str, taken: bool, bytes: &str) -> bool {
+    sink.puts() < 9
+        && sink.put(piece.as_bytes()).is_ok() == taken
+        && sink.bytes() == bytes.as_bytes()
 }
 
 #[test]
-fn adapters_stand_over_the_machine(rt: HostRuntime) -> Result<(), Fail> {
+fn memory_sinks_fail_where_they_are_told_to(rt: HostRuntime) -> Result<(), Fail> {
+    let mut sink = some_sink(rt.alloc())?;
+    for (piece, taken, bytes) in [
+        ("abc", true, "abc"),
+        ("def", false, "abcd"),
+        ("ef", false, "abcdef"),
+        ("", true, "abcdef"),
+        ("", false, "abcdef"),
+        ("ghij", true, "abcdefghij"),
+        ("klmn", false, "abcdefghijkl"),
+        ("m", false, "abcdefghijkl"),
+        ("", true, "abcdefghijkl"),
+    ] {
+        assert!(rt; takes(&mut sink, piece, taken, bytes), "{piece}");
+    }
+    assert_eq!(rt; (sink.puts(), sink.faults()), (9, 5));
+    Ok(())
+}
+
+fn write_files(rt: &HostRuntime) -> Result<(), Fail> {
     let alloc = rt.alloc();
-    fs::write(&rt, "empty", "")?;
-    fs::write(&rt, "longest", &blank_file(alloc, LONGEST_FILE)?)?;
-    fs::write(&rt, "longer", &blank_file(alloc, LONGEST_FILE + 1)?)?;
+    fs::write(rt, "empty", "")?;
+    fs::write(rt, "longest", &blank_file(alloc, LONGEST_FILE)?)?;
+    fs::write(rt, "longer", &blank_file(alloc, LONGEST_FILE + 1)?)?;
+    Ok(())
+}
+
+// How many bytes of a file of the machine are handed over.
+fn fetched(rt: &HostRuntime, name: &str) -> Result<usize, Fetch> {
+    HostDesk::new(rt)
+        .fetch(rt.alloc(), name)
+        .map(|bytes| bytes.len())
+}
+
+#[test]
+fn files_of_the_machine_are_handed_over_whole(rt: HostRuntime) -> Result<(), Fail> {
+    write_files(&rt)?;
     for (name, want) in [
         ("empty", Ok(0)),
         ("longest", Ok(1_048_576)),
@@ -73,15 +125,17 @@ fn adapters_stand_over_the_machine(rt: HostRuntime) -> Result<(), Fail> {
         ("missing", Err(Fetch::Failed)),
         (".", Err(Fetch::Failed)),
     ] {
-        let got = HostDesk::new(&rt).fetch(alloc, name);
-        assert_eq!(rt; got.map(|bytes| bytes.len()), want, "{name}");
+        assert_eq!(rt; fetched(&rt, name), want, "{name}");
     }
     for name in ["empty", "longest", "longer"] {
         fs::remove_file(&rt, name)?;
     }
+    Ok(())
+}
 
+#[test]
+fn standard_output_takes_pieces(rt: HostRuntime) {
     let mut sink = HostSink::new(&rt);
     assert_eq!(rt; sink.put(b"written\n"), Ok(()));
     assert_eq!(rt; sink.put(b""), Ok(()));
-    Ok(())
 }

@@ -1,8 +1,8 @@
 -- How a quotient of digits of any length stands to a fraction.
 use Rattle.std.proofs.Common.{◌≡◌, ℕ, ◌+◌, ◌-◌, ◌*◌, ◌/◌, ◌%◌, ◌^◌, ◌<◌, ◌≤◌, List, length, mul-le-mul_right, mul-le-mul_left, div-add-mod', ap, arith}
 use Rattle.exact_lin.specs.Reckoning.{wide_limit}
-use Rattle.plan_text.specs.Digits.{number}
-use Rattle.plan_text.specs.Products.{AreDigits, leading, IsNear}
+use Rattle.basics.specs.Texts.{number}
+use Rattle.plan_text.specs.Quotients.{AreDigits, leading, IsNear}
 use Rattle.plan_text.proofs.DigitNumbers.{leading_bounds}
 use Rattle.plan_text.proofs.Printing.{ten_pos}
 

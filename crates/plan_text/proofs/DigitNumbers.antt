@@ -1,10 +1,11 @@
 -- The numbers that digits stand for.
-use Rattle.std.proofs.Common.{◌≡◌, ℕ, zero, suc, ◌+◌, ◌-◌, ◌*◌, ◌^◌, ◌<◌, ◌≤◌, true, nat_le, List, [], ◌∷◌, ◌++◌, length, get_or, take, drop, pow-suc, take_all, mul-le-mul_right, refl, ap, ◌∙◌, inl, inr, arith}
+use Rattle.std.proofs.Common.{◌≡◌, ℕ, zero, suc, ◌+◌, ◌-◌, ◌*◌, ◌^◌, ◌<◌, ◌≤◌, true, nat_le, List, [], ◌∷◌, length, get_or, take, drop, pow-suc, take_all, mul-le-mul_right, refl, ap, ◌∙◌, inl, inr, arith}
 use Rattle.std.proofs.lemmas.List.{drop_more, take_more}
 use Rattle.std.proofs.lemmas.Bool.{and_parts, leb-true, cases_lt}
 use Rattle.std.specs.Char.{is_ascii_digit}
-use Rattle.plan_text.specs.Digits.{number_after, number}
-use Rattle.plan_text.specs.Products.{AreDigits, leading}
+use Rattle.basics.proofs.Texts.{number_after-append}
+use Rattle.basics.specs.Texts.{number_after, number}
+use Rattle.plan_text.specs.Quotients.{AreDigits, leading}
 
 pub number_after-ge : (n : ℕ) (ds : List ℕ) → n ≤ number_after n ds
 number_after-ge n [] = omega arith
@@ -24,10 +25,6 @@ number_after-past n ds i lt =
     let more = number_after-ge (10 * n + (get_or ds i 0 - 48)) (drop (i + 1) ds) in
     let e = ap (number_after n) split in
     omega arith
-
-pub number_after-append : (n : ℕ) (xs ys : List ℕ) → number_after n (xs ++ ys) ≡ number_after (number_after n xs) ys
-number_after-append n [] ys = refl
-number_after-append n (x ∷ xs) ys = number_after-append (10 * n + (x - 48)) xs ys
 
 number_more : (ds : List ℕ) (i : ℕ) → i < length ds → number (take (i + 1) ds) ≡ 10 * number (take i ds) + (get_or ds i 0 - 48)
 number_more ds i lt = ap number (take_more ds i 0 lt) ∙ number_after-append 0 (take i ds) (get_or ds i 0 ∷ [])

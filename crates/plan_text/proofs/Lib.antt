@@ -2,5 +2,6 @@ pub mod Printing
 pub mod Spelling
 pub mod DigitNumbers
 pub mod Comparing
-pub mod Searching
+pub mod LowestTerms
 pub mod ReadingLemmas
+pub mod Decimals

@@ -1,7 +1,7 @@
 -- How many places a decimal needs, and what its parts are.
 use Rattle.std.proofs.Common.{◌≡◌, ℕ, zero, suc, ◌+◌, ◌-◌, ◌/◌, ◌%◌, ◌^◌, ◌<◌, ◌≤◌, true, false, cond, ◌==◌, Some, None, [], ◌∷◌, ◌++◌, pow-suc, refl, sym, ap, ◌∙◌, subst, arith}
 use Rattle.std.proofs.lemmas.Bool.{cond-true, cond-false}
-use Rattle.plan_text.specs.Digits.{padded}
+use Rattle.plan_text.specs.Numbers.{padded}
 use Rattle.plan_text.specs.Numbers.{places_from, places_of}
 
 left_more : (places d : ℕ) → places < 19 → places_from (19 - places) places d ≡ cond (10 ^ places % d == 0) (Some places) (places_from (19 - suc places) (suc places) d)

@@ -11,9 +11,9 @@ use Rattle.rational.proofs.Field.{ℚ_ring}
 use Rattle.exact_lin.proofs.Results.{fits-neg}
 use Rattle.exact_lin.specs.Reckoning.{Fits, wide_limit}
 use Rattle.plan_text.proofs.DigitNumbers.{number_after-ge}
-use Rattle.plan_text.specs.Digits.{is_digits, number, number_after}
+use Rattle.basics.specs.Texts.{is_digits, number, number_after}
 use Rattle.plan_text.specs.Numbers.{SpellsUnsigned, SpellsNegative, Spells}
-use Rattle.plan_text.specs.Products.{AreDigits}
+use Rattle.plan_text.specs.Quotients.{AreDigits}
 use Rattle.plan_text.specs.Reading.{front_of, rest_of, pair_if, parts_marked, parts_behind, parts_of, Gives, GivesNegative, has_digit_above_zero}
 
 pub digits_join : (xs ys : List ℕ) → AreDigits xs → AreDigits ys → AreDigits (xs ++ ys)

@@ -1,5 +1,5 @@
 -- What printed numbers stand for.
-use Rattle.std.proofs.Common.{◌≡◌, ℕ, zero, suc, ◌+◌, ◌-◌, ◌*◌, ◌/◌, ◌%◌, ◌^◌, ◌<◌, ◌≤◌, true, ◌==◌, ℤ, pos, negsuc, nat_abs, Option, Some, None, List, [], ◌∷◌, ◌++◌, length, decimal, pow-suc, length-append, div-add-mod', mod-lt, add-zero, mul-le-mul_right, div-le_self, refl, sym, ap, ap₂, ◌∙◌, subst, inl, inr, arith}
+use Rattle.std.proofs.Common.{◌≡◌, ℕ, zero, suc, ◌+◌, ◌*◌, ◌/◌, ◌%◌, ◌^◌, ◌<◌, ◌≤◌, true, ◌==◌, ℤ, pos, negsuc, nat_abs, Option, Some, None, List, [], ◌∷◌, ◌++◌, length, decimal, pow-suc, length-append, div-add-mod', mod-lt, add-zero, mul-le-mul_right, div-le_self, refl, sym, ap, ap₂, ◌∙◌, subst, inl, inr, arith}
 use Rattle.std.proofs.lemmas.Bool.{and_from, cases_Bool, eqb-true, lt-ltb, le-leb, cond-true, cond-false}
 use Rattle.std.proofs.lemmas.List.Folds.{list_all-append}
 use Rattle.std.proofs.lemmas.Fmt.{decimal_by_steps_wide}
@@ -10,13 +10,11 @@ use Rattle.rational.specs.Rational.{ℚ, ratio}
 use Rattle.rational.proofs.Fractions.{den_pos, equal_ratios, ratio-parts}
 use Rattle.rational.proofs.Field.{neg-ratio}
 use Rattle.exact_lin.specs.Reckoning.{Fits, wide_limit}
-use Rattle.plan_text.specs.Digits.{is_digits, number, number_after, padded}
+use Rattle.basics.proofs.Texts.{number_after-append}
+use Rattle.basics.specs.Texts.{is_digits, number, number_after}
+use Rattle.plan_text.specs.Numbers.{padded}
 use Rattle.plan_text.specs.Numbers.{SpellsDecimal, SpellsQuotient, SpellsUnsigned, Spells, places_from, places_of, decimal_text, quotient_text, unsigned_text, sign_text, number_text}
 use Rattle.plan_text.proofs.Printing.{ten_pos, places_start}
-
-pub number_after-append : (n : ℕ) (xs ys : List ℕ) → number_after n (xs ++ ys) ≡ number_after (number_after n xs) ys
-number_after-append n [] ys = refl
-number_after-append n (x ∷ xs) ys = number_after-append (10 * n + (x - 48)) xs ys
 
 digit_byte : (d : ℕ) → d < 10 → is_ascii_digit (48 + d) ≡ true
 digit_byte d lt = and_from _ _ (le-leb 48 (48 + d) (omega arith)) (le-leb (48 + d) 57 (omega arith))

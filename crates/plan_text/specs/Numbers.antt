@@ -1,9 +1,9 @@
--- The texts of numbers in plans, orderings, certificates and options.
-use Rattle.std.specs.Prelude.{◌≡◌, ℕ, zero, suc, ◌*◌, ◌/◌, ◌%◌, ◌^◌, ◌≤◌, ◌<◌, ◌⊎◌, ℤ, pos, negsuc, true, List, [], ◌∷◌, ◌++◌, length, decimal, Option, Some, None, if◌then◌else◌, ◌==◌}
+-- Believed: the texts of numbers in plans, orderings, certificates and options.
+use Rattle.std.specs.Prelude.{◌≡◌, ℕ, zero, suc, ◌+◌, ◌*◌, ◌/◌, ◌%◌, ◌^◌, ◌≤◌, ◌<◌, ◌⊎◌, ℤ, pos, negsuc, true, List, [], ◌∷◌, ◌++◌, length, decimal, Option, Some, None, if◌then◌else◌, ◌==◌}
 use Rattle.std.specs.Option.{option_map_or}
 use lib.IntN.{nat_abs}
 use Rattle.rational.specs.Rational.{ℚ, ratio, neg_ℚ}
-use Rattle.plan_text.specs.Digits.{is_digits, number, padded}
+use Rattle.basics.specs.Texts.{digit_limit, is_digits, number}
 
 -- digits stand for a whole number
 pub record SpellsWhole (text : List ℕ) (q : ℚ) : Type 0 where
@@ -17,7 +17,7 @@ pub record SpellsDecimal (text : List ℕ) (q : ℚ) : Type 0 where
   pub parts : text ≡ front ++ 46 ∷ places
   pub front_digits : is_digits front ≡ true
   pub places_digits : is_digits places ≡ true
-  pub few : length places ≤ 18
+  pub few : length places ≤ digit_limit
   pub value : q ≡ ratio (pos (number (front ++ places))) (10 ^ length places)
 
 -- digits, a slash and digits of a number that isn't 0 stand for the quotient, in lowest terms or not
@@ -45,6 +45,11 @@ pub record SpellsNegative (text : List ℕ) (q : ℚ) : Type 0 where
 -- the text stands for the number
 abbrev pub Spells : List ℕ → ℚ → Type 0
 Spells text q = SpellsUnsigned text q ⊎ SpellsNegative text q
+
+-- the last digits of a number, so many of them, with zeros in front where it has fewer
+abbrev pub padded : ℕ → ℕ → List ℕ
+padded zero n = []
+padded (suc places) n = padded places (n / 10) ++ (48 + n % 10) ∷ []
 
 -- the least number of places, from a first one on, at which the power of ten is a multiple
 abbrev pub places_from : ℕ → ℕ → ℕ → Option ℕ

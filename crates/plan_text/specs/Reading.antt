@@ -1,11 +1,11 @@
--- What reading a text gives: words for the private functions alone.
+-- Private: what reading a text gives.
 use Rattle.std.specs.Prelude.{◌≡◌, ℕ, ◌^◌, pos, Bool, not, ◌&&◌, ◌==◌, List, [], ◌∷◌, ◌++◌, length, nat_lt, nat_le, Option, Some, None, if◌then◌else◌}
 use Rattle.std.specs.Option.{SomeIff}
 use Rattle.std.specs.List.{list_any}
 use Rattle.std.specs.Char.{is_ascii_digit}
 use Rattle.rational.specs.Rational.{ℚ, ratio, neg_ℚ}
 use Rattle.exact_lin.specs.Reckoning.{Fits, wide_limit}
-use Rattle.plan_text.specs.Digits.{is_digits, number}
+use Rattle.basics.specs.Texts.{digit_limit, is_digits, number}
 
 -- the digits at the front
 abbrev pub front_of : List ℕ → List ℕ
@@ -23,7 +23,7 @@ pair_if test n d = if test then Some (n, d) else None
 
 -- the two parts of a decimal: all its digits, and a power of ten
 abbrev pub decimal_parts : List ℕ → List ℕ → Option (ℕ × ℕ)
-decimal_parts front places = pair_if (is_digits places && nat_le (length places) 18) (number (front ++ places)) (10 ^ length places)
+decimal_parts front places = pair_if (is_digits places && nat_le (length places) digit_limit) (number (front ++ places)) (10 ^ length places)
 
 -- the two parts of a quotient
 abbrev pub quotient_parts : List ℕ → List ℕ → Option (ℕ × ℕ)

@@ -3,8 +3,8 @@
 ghost use Rattle.std.specs.Prelude.{◌≡◌, ℕ, ◌+◌, ◌*◌, ◌^◌, ◌≤◌, ◌<◌, ◌++◌, length};
 ghost use Rattle.std.specs.Ordering.{MatchOrdering};
 ghost use Rattle.exact_lin.specs.Reckoning.{wide_limit};
-ghost use Rattle.plan_text.specs.Digits.{number};
-ghost use Rattle.plan_text.specs.Products.{bytes_of, AreDigits, Compares, IsNear};
+ghost use Rattle.basics.specs.Texts.{number};
+ghost use Rattle.plan_text.specs.Quotients.{bytes_of, AreDigits, Compares, IsNear};
 
 use crate::digits::Digits;
 use std::cmp::Ordering;

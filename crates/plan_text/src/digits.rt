@@ -20,8 +20,8 @@ ghost use Rattle.std.specs.Option.{SomeIff};
 ghost use Rattle.std.specs.List.{list_all};
 ghost use Rattle.std.specs.Char.{is_ascii_digit};
 ghost use Rattle.exact_lin.specs.Reckoning.{wide_limit};
-ghost use Rattle.plan_text.specs.Digits.{is_digits, number, number_after};
-ghost use Rattle.plan_text.specs.Products.{bytes_of, AreDigits, leading};
+ghost use Rattle.basics.specs.Texts.{is_digits, number, number_after};
+ghost use Rattle.plan_text.specs.Quotients.{bytes_of, AreDigits, leading};
 
 /// The largest part of a fraction.
 pub const LIMIT: u128 = 170141183460469231731687303715884105727;

@@ -3,12 +3,13 @@
 
 mod compare;
 mod digits;
+pub mod laws;
+mod lowest_terms;
 mod print;
 mod read;
-mod search;
 
 pub use print::print_number;
-pub use read::{numbers_are_one, numbers_read_back, read_number};
+pub use read::read_number;
 
 #[cfg(test)]
 mod tests;

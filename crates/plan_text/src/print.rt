@@ -23,7 +23,7 @@ ghost use Rattle.std.specs.Prelude.{
   nat_abs,
 };
 ghost use Rattle.exact_lin.specs.Reckoning.{Fits, wide_limit};
-ghost use Rattle.plan_text.specs.Digits.{padded};
+ghost use Rattle.plan_text.specs.Numbers.{padded};
 ghost use Rattle.plan_text.specs.Numbers.{places_of, decimal_text, quotient_text, sign_text, unsigned_text, number_text, Spells};
 
 use exact_lin::{Fraction, NoMemory};

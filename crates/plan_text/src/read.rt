@@ -2,7 +2,6 @@
 
 ghost use Rattle.std.specs.Prelude.{
   ◌≡◌,
-  ℕ,
   ◌+◌,
   ◌*◌,
   ◌^◌,
@@ -11,7 +10,6 @@ ghost use Rattle.std.specs.Prelude.{
   ◌++◌,
   ◌∷◌,
   [],
-  List,
   true,
   ◌&&◌,
   length,
@@ -25,13 +23,13 @@ ghost use Rattle.std.specs.Prelude.{
 ghost use Rattle.std.specs.Option.{SomeIff};
 ghost use Rattle.rational.specs.Rational.{ℚ, ratio};
 ghost use Rattle.exact_lin.specs.Reckoning.{wide_limit, Fits};
-ghost use Rattle.plan_text.specs.Digits.{is_digits, number};
-ghost use Rattle.plan_text.specs.Numbers.{Spells, number_text};
-ghost use Rattle.plan_text.specs.Products.{bytes_of, AreDigits};
+ghost use Rattle.basics.specs.Texts.{is_digits, number};
+ghost use Rattle.plan_text.specs.Numbers.{Spells};
+ghost use Rattle.plan_text.specs.Quotients.{bytes_of, AreDigits};
 ghost use Rattle.plan_text.specs.Reading.{front_of, rest_of, decimal_parts, quotient_parts, parts_marked, parts_of, Gives, GivesNegative, has_digit_above_zero};
 
 use crate::digits::{Digits, is_digits, small_after};
-use crate::search::{Quotient, lowest_parts};
+use crate::lowest_terms::{Quotient, lowest_parts};
 use exact_lin::{Fraction, Scalar};
 
 /// The most places of a decimal.
@@ -229,13 +227,3 @@ pub fn read_number(text: &[u8]) -> Option<Fraction>
         }
     }
 }
-
-/// Each text stands for one number at most.
-pub fn numbers_are_one()
-    ensures { (text : List ℕ) (q r : ℚ) → Spells text q → Spells text r → q ≡ r }
-{}
-
-/// The text in which a number is printed stands for it, so that `read_number` gives back what `print_number` printed.
-pub fn numbers_read_back()
-    ensures { (q : ℚ) → Fits wide_limit q → Spells (number_text q) q }
-{}

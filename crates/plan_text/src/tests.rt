@@ -1,3 +1,5 @@
+//! Texts and the numbers that they stand for, both ways.
+
 use crate::{print_number, read_number};
 use exact_lin::Fraction;
 use std::test::Fail;

@@ -4,8 +4,9 @@ use Rattle.std.proofs.lemmas.Bool.{and_parts, and_from}
 use Rattle.std.proofs.lemmas.Bool.Decides.{nat_tests}
 use Rattle.std.specs.Option.{option_map, option_and_then, unwrap_or}
 use Rattle.std.specs.List.{list_all}
-use Rattle.planner_core.specs.PlanFile.{is_blank, is_mark, is_run_byte, IsRun, AreBlanks, SpelledBy, Fields, Says}
-use Rattle.planner_core.specs.Scanning.{skip_blanks, run_in_front, skip_run, behind, behind_mark, some_run, next_run, closed_by, enclosed_run, with_duration, with_name, with_start, fields_of}
+use Rattle.basics.specs.Texts.{is_blank}
+use Rattle.planner_core.specs.PlanFile.{is_mark, is_run_byte, IsRun, AreBlanks, SpelledBy, Fields, Says}
+use Rattle.planner_core.specs.LineScan.{skip_blanks, run_in_front, skip_run, behind, behind_mark, some_run, next_run, closed_by, enclosed_run, with_duration, with_name, with_start, fields_of}
 use Rattle.planner_core.proofs.Scans.{run_splits}
 
 -- where a step after a step gives something, both do

@@ -78,24 +78,45 @@ told Tells words files said (Some (Validate domain_name problem_name plan_name))
   tells = tell domain problem plan is;
 }
 
+-- Told apart by a family, and not by `cc`, which would compute the replies' texts.
+abbrev NotDone : Status → Type 0
+NotDone Done = ⊥
+NotDone Negative = Unit {0}
+NotDone Usage = Unit {0}
+NotDone Refused = Unit {0}
+NotDone Budget = Unit {0}
+NotDone ReadFault = Unit {0}
+NotDone WriteFault = Unit {0}
+NotDone NoMemory = Unit {0}
+
+abbrev NotNegative : Status → Type 0
+NotNegative Done = Unit {0}
+NotNegative Negative = ⊥
+NotNegative Usage = Unit {0}
+NotNegative Refused = Unit {0}
+NotNegative Budget = Unit {0}
+NotNegative ReadFault = Unit {0}
+NotNegative WriteFault = Unit {0}
+NotNegative NoMemory = Unit {0}
+
 valid_answer : (domain problem plan : List ℕ) (answer : TextsAnswer) → IsAnswer domain problem plan answer → (said_of answer).status ≡ Done → TellsValid domain problem plan (said_of answer).text
-valid_answer domain problem plan (Unbuilt Domain) is e = cc
-valid_answer domain problem plan (Unbuilt Problem) is e = cc
-valid_answer domain problem plan (Unbuilt Plan) is e = cc
-valid_answer domain problem plan (Wide number Line) is e = cc
-valid_answer domain problem plan (Wide number (Happening k)) is e = cc
+valid_answer domain problem plan (Unbuilt Domain) is e = absurd (subst NotDone e tt)
+valid_answer domain problem plan (Unbuilt Problem) is e = absurd (subst NotDone e tt)
+valid_answer domain problem plan (Unbuilt Plan) is e = absurd (subst NotDone e tt)
+valid_answer domain problem plan (Wide number Line) is e = absurd (subst NotDone e tt)
+valid_answer domain problem plan (Wide number (Happening k)) is e = absurd (subst NotDone e tt)
 valid_answer domain problem plan (Decided number (Valid c)) (task, (line, (read, (reckoned, (valid, same))))) e =
     let text : ℚ → List ℕ = λ x. codes "valid cost " ++ number_text x ++ codes "\n" in
     record { task = task; number = number; line = line; read = read; valid = valid; told = ap text same }
-valid_answer domain problem plan (Decided number (Invalid reason)) is e = cc
+valid_answer domain problem plan (Decided number (Invalid reason)) is e = absurd (subst NotDone e tt)
 
 invalid_answer : (domain problem plan : List ℕ) (answer : TextsAnswer) → IsAnswer domain problem plan answer → (said_of answer).status ≡ Negative → TellsInvalid domain problem plan (said_of answer).text
-invalid_answer domain problem plan (Unbuilt Domain) is e = cc
-invalid_answer domain problem plan (Unbuilt Problem) is e = cc
-invalid_answer domain problem plan (Unbuilt Plan) is e = cc
-invalid_answer domain problem plan (Wide number Line) is e = cc
-invalid_answer domain problem plan (Wide number (Happening k)) is e = cc
-invalid_answer domain problem plan (Decided number (Valid c)) is e = cc
+invalid_answer domain problem plan (Unbuilt Domain) is e = absurd (subst NotNegative e tt)
+invalid_answer domain problem plan (Unbuilt Problem) is e = absurd (subst NotNegative e tt)
+invalid_answer domain problem plan (Unbuilt Plan) is e = absurd (subst NotNegative e tt)
+invalid_answer domain problem plan (Wide number Line) is e = absurd (subst NotNegative e tt)
+invalid_answer domain problem plan (Wide number (Happening k)) is e = absurd (subst NotNegative e tt)
+invalid_answer domain problem plan (Decided number (Valid c)) is e = absurd (subst NotNegative e tt)
 invalid_answer domain problem plan (Decided number (Invalid reason)) (task, (line, (read, (reckoned, first)))) e =
     record { task = task; number = number; line = line; reason = reason; read = read; first = first; told = refl }
 

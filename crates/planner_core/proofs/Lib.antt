@@ -1,7 +1,9 @@
 pub mod Led
-pub mod Facts
+pub mod Statuses
 pub mod Scans
 pub mod Fields
 pub mod PlanFiles
 pub mod Answered
 pub mod Headlines
+pub mod OneAnswer
+pub mod Exact

@@ -2,8 +2,9 @@
 use Rattle.std.proofs.Common.{◌≡◌, ℕ, ◌+◌, ◌-◌, ◌<◌, ◌≤◌, true, false, cond, List, [], ◌∷◌, ◌++◌, length, take, nat_eq, refl, ap, ◌∙◌, arith, length-append}
 use Rattle.std.proofs.Math.Seq.{take-append_seam}
 use Rattle.std.specs.List.{list_all}
-use Rattle.planner_core.specs.PlanFile.{is_blank, is_run_byte, before, lines_of, with_front, written_from}
-use Rattle.planner_core.specs.Scanning.{run_in_front, skip_run, skip_to, tail_of, behind_line}
+use Rattle.basics.specs.Texts.{is_blank}
+use Rattle.planner_core.specs.PlanFile.{is_run_byte, before, lines_of, with_front, written_from}
+use Rattle.planner_core.specs.LineScan.{run_in_front, skip_run, skip_to, tail_of, behind_line}
 
 -- a list that is a front and a rest is no shorter than the rest, and its front is what is left without it
 pub rest_within : (line front rest : List ℕ) → line ≡ front ++ rest → length rest ≤ length line

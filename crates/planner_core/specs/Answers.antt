@@ -1,4 +1,4 @@
--- What is answered to a domain, a problem and a plan.
+-- Believed: what is answered to a domain, a problem and a plan.
 use Rattle.std.specs.Prelude.{◌≡◌, ℕ, List, pos}
 use Rattle.rational.specs.Rational.{ratio}
 use Rattle.first_path.specs.declared.model.Task.{Task}
@@ -8,7 +8,9 @@ use Rattle.first_path.specs.declared.domains.Domain.{Domain as DomainRead}
 use Rattle.first_path.specs.DomainText.{IsDomain}
 use Rattle.first_path.specs.Problem.{IsProblem}
 use Rattle.first_path.specs.Validity.{IsRight}
-use Rattle.first_path.specs.Course.{course, IsReckoned, IsFirstUndefined}
+use Rattle.exact_lin.specs.Reckoning.{wide_limit}
+use Rattle.exact_lin.specs.Reckonings.{AllDefined, IsFirstUndefined}
+use Rattle.first_path.specs.Course.{course}
 use Rattle.planner_core.specs.declared.reply.Role.{Role}
 use Rattle.planner_core.specs.declared.reply.Role.TheVariants.{Domain, Problem, Plan}
 use Rattle.first_path.specs.declared.model.Undefined.{Undefined}
@@ -36,7 +38,8 @@ pub record MakeTask (domain problem : List ℕ) (read : DomainRead) (task : Task
   pub problem_read : IsProblem problem read task
 
 -- The texts are those of this task and of a plan with this line, which has this number in its file.
-pub record AreRead (domain problem plan : List ℕ) (task : Task) (number : ℕ) (line : PlanLine) : Type 0 where
+pub record AreRead (domain problem plan : List ℕ) (task : Task) (number : ℕ) (line : PlanLine)
+    : Type 0 where
   pub read : DomainRead
   pub task_made : MakeTask domain problem read task
   pub plan_read : IsPlanFile read.action.items plan number line
@@ -44,14 +47,23 @@ pub record AreRead (domain problem plan : List ℕ) (task : Task) (number : ℕ)
 -- the file of this role is the first that is not read
 abbrev pub IsUnread : List ℕ → List ℕ → List ℕ → Role → Type 0
 IsUnread domain problem plan Domain = (read : DomainRead) → ¬ (IsDomain domain read)
-IsUnread domain problem plan Problem = (read : DomainRead) × (IsDomain domain read × ((task : Task) → ¬ (IsProblem problem read task)))
-IsUnread domain problem plan Plan = (read : DomainRead) × ((task : Task) × (MakeTask domain problem read task × ((number : ℕ) (line : PlanLine) → ¬ (IsPlanFile read.action.items plan number line))))
+IsUnread domain problem plan Problem =
+    (read : DomainRead) × (IsDomain domain read × ((task : Task) → ¬ (IsProblem problem read task)))
+IsUnread domain problem plan Plan =
+    (read : DomainRead) × ((task : Task) × (MakeTask domain problem read task
+    × ((number : ℕ) (line : PlanLine) → ¬ (IsPlanFile read.action.items plan number line))))
 
--- what is answered is right: the first file that is not read, the first undefined place of the plan's course, or the verdict on the plan
+-- what is answered is right: the first file that is not read, the first undefined place of the plan's course, or the
+-- verdict on the plan
 abbrev pub IsAnswer : List ℕ → List ℕ → List ℕ → Answer → Type 0
 IsAnswer domain problem plan (Unbuilt role) = IsUnread domain problem plan role
-IsAnswer domain problem plan (Wide number place) = (task : Task) × ((line : PlanLine) × (AreRead domain problem plan task number line × IsFirstUndefined (course standard_rules task line) place))
-IsAnswer domain problem plan (Decided number verdict) = (task : Task) × ((line : PlanLine) × (AreRead domain problem plan task number line × (IsReckoned (course standard_rules task line) × IsRight standard_rules task line verdict)))
+IsAnswer domain problem plan (Wide number place) =
+    (task : Task) × ((line : PlanLine) × (AreRead domain problem plan task number line
+    × IsFirstUndefined wide_limit (course standard_rules task line) place))
+IsAnswer domain problem plan (Decided number verdict) =
+    (task : Task) × ((line : PlanLine) × (AreRead domain problem plan task number line
+    × (AllDefined wide_limit (course standard_rules task line)
+    × IsRight standard_rules task line verdict)))
 
 -- what is answered, as a reply
 abbrev pub said_of : Answer → Said

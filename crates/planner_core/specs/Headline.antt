@@ -1,4 +1,4 @@
--- What a printed verdict says to a reader: the plan in the files is valid at every instant and has this cost, or it is not valid, for this reason.
+-- Believed: what a printed verdict tells: the plan in the files is valid and has this cost, or is not, for this reason.
 use Rattle.std.specs.Prelude.{◌≡◌, ℕ, List, ◌++◌, codes, Option, Some, Ok}
 use Rattle.outside.specs.Fetching.{Files, MayAnswer}
 use Rattle.outside.specs.Putting.{SinkView, sink_with}
@@ -12,7 +12,8 @@ use Rattle.planner_core.specs.Works.{Validate, request_of}
 use Rattle.planner_core.specs.Answers.{AreRead, standard_rules}
 
 -- The words ask for a validation, and these are the bytes of the three files that they name.
-pub record AreFetched (words : List (List ℕ)) (files : Option Files) (domain problem plan : List ℕ) : Type 0 where
+pub record AreFetched (words : List (List ℕ)) (files : Option Files) (domain problem plan : List ℕ)
+    : Type 0 where
   pub domain_name : List ℕ
   pub problem_name : List ℕ
   pub plan_name : List ℕ
@@ -41,7 +42,8 @@ pub record TellsInvalid (domain problem plan text : List ℕ) : Type 0 where
   pub told : text ≡ reason_text number reason ++ codes "\n"
 
 -- A reply that tells so of the files was printed whole.
-pub record Printed (Tells : List ℕ → List ℕ → List ℕ → List ℕ → Type 0) (words : List (List ℕ)) (files : Option Files) (sink sink_now : SinkView) : Type 0 where
+pub record Printed (Tells : List ℕ → List ℕ → List ℕ → List ℕ → Type 0) (words : List (List ℕ))
+    (files : Option Files) (sink sink_now : SinkView) : Type 0 where
   pub domain : List ℕ
   pub problem : List ℕ
   pub plan : List ℕ

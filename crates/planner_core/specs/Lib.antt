@@ -2,10 +2,11 @@ pub mod Replies
 pub mod Validations
 pub mod Answers
 pub mod PlanFile
-pub mod Scanning
-pub mod Seen
+pub mod LineScan
+pub mod PlanFileParts
 pub mod Works
 pub mod Words
 pub mod Sessions
 pub mod Headline
 pub mod Stops
+pub mod Laws

@@ -1,15 +1,12 @@
--- The lines of a plan file, and how a line is spelled.
+-- Believed: the lines of a plan file, and how a line is spelled.
 use Rattle.std.specs.Prelude.{◌≡◌, ℕ, ◌+◌, Bool, IsTrue, true, not, ◌&&◌, ◌||◌, ◌==◌, List, [], ◌∷◌, ◌++◌, length, nat_lt, if◌then◌else◌}
 use Rattle.std.specs.List.{list_all}
+use Rattle.basics.specs.Texts.{is_blank}
 use Rattle.rational.specs.Rational.{ℚ}
 use Rattle.exact_lin.specs.Reckoning.{wide_limit, Fits}
 use Rattle.plan_text.specs.Numbers.{Spells}
 use Rattle.first_path.specs.Grammar.{same_word}
 use Rattle.first_path.specs.declared.model.PlanLine.{PlanLine}
-
--- a space, a tab or a carriage return
-abbrev pub is_blank : ℕ → Bool
-is_blank b = (b == 32) || ((b == 9) || (b == 13))
 
 -- a parenthesis, a bracket or a colon
 abbrev pub is_mark : ℕ → Bool
@@ -29,7 +26,9 @@ AreBlanks bytes = list_all is_blank bytes ≡ true
 -- The line is these tokens with blanks, or none, before, between and behind them.
 abbrev pub SpelledBy : List (List ℕ) → List ℕ → Type 0
 SpelledBy [] line = AreBlanks line
-SpelledBy (token ∷ tokens) line = (gap : List ℕ) × ((rest : List ℕ) × (AreBlanks gap × (line ≡ gap ++ (token ++ rest)) × SpelledBy tokens rest))
+SpelledBy (token ∷ tokens) line =
+    (gap : List ℕ) × ((rest : List ℕ)
+    × (AreBlanks gap × (line ≡ gap ++ (token ++ rest)) × SpelledBy tokens rest))
 
 -- what a line says to a start of the action: `start: (name) [duration]`
 pub record Fields : Type 0 where
@@ -39,7 +38,8 @@ pub record Fields : Type 0 where
 
 -- the tokens of such a line
 abbrev pub tokens_of : Fields → List (List ℕ)
-tokens_of f = f.start ∷ (58 ∷ []) ∷ (40 ∷ []) ∷ f.name ∷ (41 ∷ []) ∷ (91 ∷ []) ∷ f.duration ∷ (93 ∷ []) ∷ []
+tokens_of f =
+    f.start ∷ (58 ∷ []) ∷ (40 ∷ []) ∷ f.name ∷ (41 ∷ []) ∷ (91 ∷ []) ∷ f.duration ∷ (93 ∷ []) ∷ []
 
 -- the line says so
 pub record Says (line : List ℕ) (fields : Fields) : Type 0 where

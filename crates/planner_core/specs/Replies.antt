@@ -1,4 +1,4 @@
--- The replies that every command may give, and the codes of their statuses.
+-- Believed: the replies that every command may give, and the codes of their statuses.
 use Rattle.std.specs.Prelude.{ℕ, List, ◌++◌, codes, decimal}
 use Rattle.planner_core.specs.declared.status.Status.{Status}
 use Rattle.planner_core.specs.declared.status.Status.TheVariants.{Done, Negative, Usage, Refused, Budget, ReadFault, WriteFault, NoMemory}
@@ -29,7 +29,10 @@ role_word Plan = codes "plan"
 
 -- the words are no command's
 abbrev pub usage : Said
-usage = record { status = Usage; text = codes "usage: fluxplan validate or schedule or plan or check or demo\n" }
+usage = record {
+  status = Usage;
+  text = codes "usage: fluxplan validate or schedule or plan or check or demo\n";
+}
 
 -- the fetch of this name failed
 abbrev pub read_fault : List ℕ → Said
@@ -37,7 +40,10 @@ read_fault name = record { status = ReadFault; text = codes "read fault " ++ nam
 
 -- this file is longer than the longest that is read; so many of its bytes were taken
 abbrev pub too_long : Role → ℕ → Said
-too_long role count = record { status = Refused; text = codes "refused " ++ role_word role ++ codes " Long " ++ decimal count ++ codes "\n" }
+too_long role count = record {
+  status = Refused;
+  text = codes "refused " ++ role_word role ++ codes " Long " ++ decimal count ++ codes "\n";
+}
 
 -- a status that an answer to texts may have
 abbrev pub IsAnswerStatus : Status → Type 0

@@ -1,4 +1,4 @@
--- What a run did, in terms of the answers that its fetches had.
+-- Believed: what a run did, in terms of the answers that its fetches had.
 use Rattle.std.specs.Prelude.{◌≡◌, ◌⊎◌, ℕ, List, [], ◌∷◌, Option, Some, None, Ok, Err}
 use Rattle.outside.specs.Fetching.{Files, Answer, MayAnswer, DeskView, desk_after}
 use Rattle.outside.specs.Putting.{SinkView, sink_with, sink_failed}
@@ -10,12 +10,14 @@ use Rattle.planner_core.specs.declared.reply.Role.{Role}
 use Rattle.planner_core.specs.Replies.{Said, read_fault, too_long}
 use Rattle.planner_core.specs.Works.{Work, Ends, Asks, work_of}
 
--- There is one answer for each fetch of the work, up to the first that hands over no bytes; each is one that the desk may give.
+-- There is one answer for each fetch of the work, up to the first that hands over no bytes; each is one that the desk
+-- may give.
 abbrev pub AreAnswers : Option Files → Work → List Answer → Type 0
 AreAnswers files (Ends P) [] = Unit {0}
 AreAnswers files (Ends P) (answer ∷ answers) = ⊥
 AreAnswers files (Asks role name next) [] = ⊥
-AreAnswers files (Asks role name next) (Ok bytes ∷ answers) = MayAnswer files name (Ok bytes) × AreAnswers files (next bytes) answers
+AreAnswers files (Asks role name next) (Ok bytes ∷ answers) =
+    MayAnswer files name (Ok bytes) × AreAnswers files (next bytes) answers
 AreAnswers files (Asks role name next) (Err why ∷ []) = MayAnswer files name (Err why)
 AreAnswers files (Asks role name next) (Err why ∷ answer ∷ answers) = ⊥
 
@@ -25,7 +27,8 @@ stopped role name Failed = Some (read_fault name)
 stopped role name (Long count) = Some (too_long role count)
 stopped role name Memory = None
 
--- a reply to these answers: at the end one with the property asked for, and at a fetch without bytes the one that says so
+-- a reply to these answers: at the end one with the property asked for, and at a fetch without bytes the one that
+-- says so
 abbrev pub IsReply : Work → List Answer → Said → Type 0
 IsReply (Ends P) answers said = P said
 IsReply (Asks role name next) [] said = ⊥
@@ -36,7 +39,8 @@ IsReply (Asks role name next) (Err why ∷ answers) said = stopped role name why
 abbrev pub desk_end : Work → List Answer → DeskView → DeskView
 desk_end (Ends P) answers desk = desk
 desk_end (Asks role name next) [] desk = desk
-desk_end (Asks role name next) (Ok bytes ∷ answers) desk = desk_end (next bytes) answers (desk_after desk name (Ok bytes))
+desk_end (Asks role name next) (Ok bytes ∷ answers) desk =
+    desk_end (next bytes) answers (desk_after desk name (Ok bytes))
 desk_end (Asks role name next) (Err why ∷ answers) desk = desk_after desk name (Err why)
 
 -- Some answers of the fetches lead to this reply, and leave the desk so.
@@ -51,14 +55,16 @@ abbrev pub Came : Work → DeskView → DeskView → Option Said → Type 0
 Came work old new None = new ≡ old
 Came work old new (Some said) = LedTo work old new said
 
--- The reply was written whole in one piece and has given its status, or the sink failed at that piece and took a prefix of it.
+-- The reply was written whole in one piece and has given its status, or the sink failed at that piece and took a
+-- prefix of it.
 abbrev pub Delivered : Said → Status → SinkView → SinkView → Type 0
 Delivered said status old new =
     ((status ≡ said.status) × (new ≡ sink_with old said.text))
     ⊎ ((status ≡ WriteFault) × ((count : ℕ) × (new ≡ sink_failed old said.text count)))
 
 -- A run to which memory was not refused: the words, the desk and the sink before and after, and the status.
-pub record Ran (words : List (List ℕ)) (desk desk_now : DeskView) (sink sink_now : SinkView) (status : Status) : Type 0 where
+pub record Ran (words : List (List ℕ)) (desk desk_now : DeskView) (sink sink_now : SinkView)
+    (status : Status) : Type 0 where
   pub said : Said
   -- some answers of the fetches lead to this reply
   pub led : LedTo (work_of words) desk desk_now said

@@ -1,4 +1,4 @@
--- What a stop of the work stands for.
+-- Private: what a stop of the work stands for.
 use Rattle.std.specs.Prelude.{ℕ, Option, Some, None, Result, Ok, Err, Vec}
 use Rattle.std.specs.declared.alloc.Global.{Global}
 use Rattle.outside.specs.Fetching.{Answer}

@@ -1,4 +1,4 @@
--- The words of the command line as contracts see them.
+-- Believed: the words of the command line as contracts see them.
 use Rattle.std.specs.Prelude.{ℕ, List, map, String, string_bytes}
 use Rattle.std.specs.declared.alloc.Global.{Global}
 use Rattle.planner_core.specs.declared.words.Command.{Command}

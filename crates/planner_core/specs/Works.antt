@@ -1,4 +1,4 @@
--- What the words ask for, as work: files to be fetched one after another, and then a reply.
+-- Believed: what the words ask for, as work: files to be fetched one after another, and then a reply.
 use Rattle.std.specs.Prelude.{◌≡◌, ℕ, List, [], ◌∷◌, if◌then◌else◌, Option, Some, None, codes}
 use Rattle.std.specs.Str.{bytes_eq}
 use Rattle.planner_core.specs.declared.reply.Role.{Role}
@@ -37,7 +37,8 @@ pub data Work : Type 1 where
 -- `validate` asks for the domain, the problem and the plan, and ends with a reply to their texts
 abbrev pub validate_work : List ℕ → List ℕ → List ℕ → Work
 validate_work domain problem plan =
-    Asks Domain domain (λ domain_text. Asks Problem problem (λ problem_text. Asks Plan plan (λ plan_text. Ends (Validates domain_text problem_text plan_text))))
+    Asks Domain domain (λ domain_text. Asks Problem problem (λ problem_text. Asks Plan plan (λ plan_text.
+    Ends (Validates domain_text problem_text plan_text))))
 
 -- the work of each command
 abbrev pub work_of_request : Request → Work

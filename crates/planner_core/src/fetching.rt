@@ -1,3 +1,5 @@
+//! The fetch of a file for a command.
+
 ghost use Rattle.std.specs.Prelude.{◌≡◌, ◌<◌, ◌^◌, ◌-◌, IfErr};
 ghost use Rattle.outside.specs.Fetching.{MayAnswer, desk_after};
 ghost use Rattle.planner_core.specs.Sessions.{stopped};

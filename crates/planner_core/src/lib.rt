@@ -2,6 +2,7 @@
 #![tactic(auto)]
 
 mod fetching;
+pub mod laws;
 mod plan_file;
 mod reply;
 mod session;
@@ -9,7 +10,6 @@ mod status;
 mod validation;
 mod words;
 
-pub use plan_file::plan_files_are_one;
 pub use session::run;
 pub use status::Status;
 

@@ -1,11 +1,11 @@
 //! The reader of plan files with one line that starts the action of a task.
 
-ghost use Rattle.std.specs.Prelude.{◌≡◌, ◌++◌, ◌≢◌, ℕ, ◌+◌, ◌-◌, ◌<◌, ◌^◌, List, ◌∷◌, [], length, option_map, MatchOption};
+ghost use Rattle.std.specs.Prelude.{◌≡◌, ◌≢◌, ℕ, ◌+◌, ◌-◌, ◌<◌, ◌^◌, List, ◌∷◌, [], length, option_map, MatchOption};
 ghost use Rattle.std.specs.List.{list_all};
-ghost use Rattle.first_path.specs.declared.model.PlanLine.{PlanLine};
-ghost use Rattle.planner_core.specs.PlanFile.{is_blank, is_run_byte, before, lines_of, written_from, written_lines, TellsLine, IsPlanFile};
-ghost use Rattle.planner_core.specs.Scanning.{skip_blanks, skip_run, run_in_front, skip_to, behind_mark, next_run, enclosed_run, fields_of, behind_line};
-ghost use Rattle.planner_core.specs.Seen.{fields_seen, FindsWritten};
+ghost use Rattle.basics.specs.Texts.{is_blank, ReadsExactly};
+ghost use Rattle.planner_core.specs.PlanFile.{is_run_byte, before, lines_of, written_from, written_lines, TellsLine, IsPlanFile};
+ghost use Rattle.planner_core.specs.LineScan.{skip_blanks, skip_run, run_in_front, skip_to, behind_mark, next_run, enclosed_run, fields_of, behind_line};
+ghost use Rattle.planner_core.specs.PlanFileParts.{fields_seen, FindsWritten};
 
 use first_path::PlanLine;
 use plan_text::read_number;
@@ -13,7 +13,7 @@ use plan_text::read_number;
 fn is_blank(b: u8) -> bool
     ensures { result ≡ is_blank b }
 {
-    b == b' ' || b == b'\t' || b == b'\r'
+    matches!(b, b' ' | b'\t' | b'\n' | b'\r')
 }
 
 fn are_blanks(line: &[u8]) -> bool
@@ -112,7 +112,8 @@ fn next_run(line: &[u8]) -> Option<(&[u8], &[u8])>
 
 // The run that comes next between two marks, and what is left behind them.
 fn enclosed_run(left: u8, right: u8, line: &[u8]) -> Option<(&[u8], &[u8])>
-    ensures { option_map (λ found. (found.0.now, found.1.now)) result ≡ enclosed_run left right line.now }
+    ensures { option_map (λ found. (found.0.now, found.1.now)) result
+        ≡ enclosed_run left right line.now }
 {
     let (run, rest) = next_run(behind_mark(left, line)?)?;
     Some((run, behind_mark(right, rest)?))
@@ -126,7 +127,7 @@ struct LineFields<'a> {
     duration: &'a [u8],
 }
 
-#[tactic(auto, unfolding(crate::specs::Scanning::fields_of))]
+#[tactic(auto, unfolding(crate::specs::LineScan::fields_of))]
 fn read_fields(line: &[u8]) -> Option<LineFields<'_>>
     ensures { option_map fields_seen result ≡ fields_of line.entry.now }
 {
@@ -166,7 +167,8 @@ fn split_line(text: &[u8]) -> (&[u8], &[u8])
 // The next line that isn't blank once comments are cut, where the first has this number.
 fn next_written(text: &[u8], number: u32) -> Option<Written<'_>>
     requires { number + length text.now < 2 ^ 32 }
-    ensures { MatchOption result (written_from number (lines_of text.entry.now) ≡ []) (FindsWritten text.entry.now number) }
+    ensures { MatchOption result (written_from number (lines_of text.entry.now) ≡ [])
+        (FindsWritten text.entry.now number) }
 {
     let mut rest = text;
     let mut number = number;
@@ -189,7 +191,8 @@ fn next_written(text: &[u8], number: u32) -> Option<Written<'_>>
 // The only line that isn't blank once comments are cut, and its number.
 fn only_written(text: &[u8]) -> Option<Written<'_>>
     requires { length text.now < 2 ^ 32 - 1 }
-    ensures { MatchOption result ((only : ℕ × List ℕ) → written_lines text.entry.now ≢ only ∷ [])
+    ensures { MatchOption result
+        ((only : ℕ × List ℕ) → written_lines text.entry.now ≢ only ∷ [])
         (λ w. written_lines text.entry.now ≡ (w.number, w.line.now) ∷ []) }
 {
     let first = next_written(text, 1)?;
@@ -201,7 +204,7 @@ fn only_written(text: &[u8]) -> Option<Written<'_>>
 
 // The start of the action that the fields tell, where they name it.
 fn line_of(fields: LineFields<'_>, action: &[u8]) -> Option<PlanLine>
-    ensures { MatchOption result ((line : PlanLine) → ¬ (TellsLine action.now (fields_seen fields.entry) line)) (TellsLine action.now (fields_seen fields.entry)) }
+    ensures { ReadsExactly result (TellsLine action.now (fields_seen fields.entry)) }
 {
     if !fields.name.eq_ignore_ascii_case(action) {
         return None;
@@ -214,15 +217,9 @@ fn line_of(fields: LineFields<'_>, action: &[u8]) -> Option<PlanLine>
 /// Reads a plan file with one line that starts this action: the line's number, and what it says.
 pub fn read_plan_file(text: &[u8], action: &[u8]) -> Option<(u32, PlanLine)>
     requires { length text.now < 2 ^ 32 - 1 }
-    ensures { MatchOption result ((number : ℕ) (line : PlanLine) → ¬ (IsPlanFile action.now text.now number line))
-        (λ found. IsPlanFile action.now text.now found.0 found.1) }
+    ensures { ReadsExactly result (λ found. IsPlanFile action.now text.now found.0 found.1) }
 {
     let only = only_written(text)?;
     let fields = read_fields(only.line)?;
     Some((only.number, line_of(fields, action)?))
 }
-
-/// A text is one plan file at most: it has one line with one number, which tells one start and one duration.
-pub fn plan_files_are_one()
-    ensures { (action text : List ℕ) (n m : ℕ) (l k : PlanLine) → IsPlanFile action text n l → IsPlanFile action text m k → (n ≡ m) × (l ≡ k) }
-{}

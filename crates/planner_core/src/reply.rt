@@ -1,3 +1,5 @@
+//! Replies with their statuses, and those that every command may give.
+
 ghost use Rattle.std.specs.Prelude.{◌≡◌, IfOk, Some};
 ghost use Rattle.planner_core.specs.Replies.{role_word, usage, read_fault, too_long};
 

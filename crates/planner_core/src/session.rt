@@ -1,3 +1,5 @@
+//! A run of the program: the words, the fetches, the reply, and its delivery.
+
 ghost use Rattle.std.specs.Prelude.{◌≡◌, ◌≢◌, ◌⊎◌, ◌↔◌, ◌+◌, ◌<◌, ◌^◌, ◌-◌, None, Contains};
 ghost use Rattle.planner_core.specs.Works.{work_of, validate_work, request_of, file_words};
 ghost use Rattle.planner_core.specs.Words.{texts};
@@ -11,7 +13,7 @@ use crate::status::Status;
 use crate::validation::validation_reply;
 use crate::words::{Command, read_words};
 use exact_lin::NoMemory;
-use outside::{Desk, Sink};
+use outside::{Desk, Failed, Sink};
 use std::alloc::Global;
 
 /// Runs the program: from the words of the command line, without the program's name, to the reply
@@ -39,29 +41,34 @@ pub fn run<D: Desk, K: Sink>(alloc: Global, words: &[String], desk: &mut D, sink
         (D.told desk.old).files (K.told sink.old) (K.told sink.new) }
 
     // The table of answers, a row a clause.
-    ensures one_put { result ≢ Status.NoMemory → (K.told sink.new).puts ≡ (K.told sink.old).puts + 1 }
+    ensures one_put { result ≢ Status.NoMemory →
+        (K.told sink.new).puts ≡ (K.told sink.old).puts + 1 }
     ensures usage { result ≡ Status.Usage → request_of (texts words.now) ≡ None }
     ensures not_accepted { request_of (texts words.now) ≡ None →
-        (result ≡ Status.Usage) ⊎ (result ≡ Status.WriteFault) ⊎ (result ≡ Status.NoMemory) }
+        (result ≡ Status.Usage) ⊎ (result ≡ Status.WriteFault)
+        ⊎ (result ≡ Status.NoMemory) }
     ensures read_fault { (result ≡ Status.ReadFault)
-        ↔ ((D.told desk.old).faults < (D.told desk.new).faults) × ((K.told sink.new).faults ≡ (K.told sink.old).faults) }
+        ↔ ((D.told desk.old).faults < (D.told desk.new).faults)
+        × ((K.told sink.new).faults ≡ (K.told sink.old).faults) }
     ensures fault_name { (D.told desk.old).faults < (D.told desk.new).faults
         → Contains (file_words (request_of (texts words.now))) (D.told desk.new).fault_name }
-    ensures write_fault { (result ≡ Status.WriteFault) ↔ ((K.told sink.old).faults < (K.told sink.new).faults) }
+    ensures write_fault { (result ≡ Status.WriteFault)
+        ↔ ((K.told sink.old).faults < (K.told sink.new).faults) }
 {
     let Ok(reply) = reply_to(alloc, words, desk) else {
         return Status::NoMemory;
     };
     match sink.put(reply.text()) {
         Ok(()) => reply.status(),
-        Err(_) => Status::WriteFault,
+        Err(Failed) => Status::WriteFault,
     }
 }
 
 // The reply to the words. Where a fetch failed it says so, and want of memory leaves no fault.
 fn reply_to<D: Desk>(alloc: Global, words: &[String], desk: &mut D) -> Result<Reply, NoMemory>
     requires { (D.told desk.old).faults < 2 ^ 64 - 1 }
-    ensures { Came (work_of (texts words.now)) (D.told desk.old) (D.told desk.new) (reply_said result) }
+    ensures { Came (work_of (texts words.now))
+        (D.told desk.old) (D.told desk.new) (reply_said result) }
 {
     match perform(alloc, words, desk) {
         Ok(reply) => Ok(reply),
@@ -74,7 +81,8 @@ fn reply_to<D: Desk>(alloc: Global, words: &[String], desk: &mut D) -> Result<Re
 // Does what the words ask for.
 fn perform<D: Desk>(alloc: Global, words: &[String], desk: &mut D) -> Result<Reply, Stop>
     requires { (D.told desk.old).faults < 2 ^ 64 - 1 }
-    ensures { Came (work_of (texts words.now)) (D.told desk.old) (D.told desk.new) (outcome result) }
+    ensures { Came (work_of (texts words.now))
+        (D.told desk.old) (D.told desk.new) (outcome result) }
 {
     match read_words(words) {
         None => Ok(usage_reply(alloc)?),
@@ -97,7 +105,8 @@ fn validate<D: Desk>(
     plan: &str,
 ) -> Result<Reply, Stop>
     requires { (D.told desk.old).faults < 2 ^ 64 - 1 }
-    ensures { Came (validate_work domain.now problem.now plan.now) (D.told desk.old) (D.told desk.new) (outcome result) }
+    ensures { Came (validate_work domain.now problem.now plan.now)
+        (D.told desk.old) (D.told desk.new) (outcome result) }
 {
     let domain_text = fetch_file(alloc, desk, Role::Domain, domain)?;
     let problem_text = fetch_file(alloc, desk, Role::Problem, problem)?;

@@ -1,3 +1,5 @@
+//! How a run may end.
+
 ghost use Rattle.std.specs.Prelude.{◌≡◌};
 ghost use Rattle.planner_core.specs.Replies.{code_of};
 

@@ -1,3 +1,5 @@
+//! Runs over files in memory, with the replies and statuses that they are to have.
+
 ghost use Rattle.std.specs.Prelude.{◌≡◌, IfOk};
 
 use crate::run;

@@ -26,7 +26,8 @@ fn over_all_text(
     from: Fraction,
     to: Fraction,
 ) -> Result<Vec<u8>, NoMemory>
-    ensures { IfOk result (λ text. text.items ≡ reason_text line (Reason.OverAll from to) ++ codes "\n") }
+    ensures { IfOk result (λ text.
+        text.items ≡ reason_text line (Reason.OverAll from to) ++ codes "\n") }
 {
     let mut text = format!(in alloc; "invalid over all line {line} between ")?.into_bytes();
     push_number(alloc, &mut text, from)?;

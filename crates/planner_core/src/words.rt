@@ -1,3 +1,5 @@
+//! The words of the command line.
+
 ghost use Rattle.std.specs.Prelude.{◌≡◌, option_map};
 ghost use Rattle.planner_core.specs.Works.{request_of};
 ghost use Rattle.planner_core.specs.Words.{texts, asked};

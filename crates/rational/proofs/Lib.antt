@@ -15,3 +15,4 @@ pub mod Compare
 pub mod Coprime
 pub mod Pivot
 pub mod Extremes
+pub mod Decimals

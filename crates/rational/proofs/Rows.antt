@@ -1,12 +1,13 @@
 -- Sums of rows of a linear program: Farkas's easy direction and weak duality.
-use Rattle.std.proofs.Common.{refl, ◌∙◌, ap, List, [], ◌∷◌}
+use Rattle.std.proofs.Common.{◌≡◌, refl, ◌∙◌, ap, ℕ, zero, suc, ◌<◌, ◌≤◌, List, [], ◌∷◌, length, arith}
+use Rattle.std.specs.List.{AllByRecursion}
 use Rattle.rational.specs.Rational.{ℚ, zeroℚ, ◌+ℚ◌, ◌-ℚ◌, ◌≤ℚ◌, ◌<ℚ◌}
 use Rattle.rational.specs.Lists.{dot, add_list, scale_list, Nonneg}
-use Rattle.rational.specs.Rows.{Row, sum_rows, Meets}
+use Rattle.rational.specs.Rows.{Row, row_at, sum_rows, Meets}
 use Rattle.rational.proofs.Ring.{◌⊕◌, ◌⊗◌, ◌⊖◌, num, ◌≼◌, ◌≺◌, ◌≐◌}
 use Rattle.rational.proofs.Order.{ℚ_ordered}
 use Rattle.rational.proofs.Inequalities.{mul-le, le_reflℚ}
-use Rattle.rational.proofs.Lists.{dot-add, dot-scale, dot-nonneg}
+use Rattle.rational.proofs.Lists.{dot-add, dot-scale, dot-nonneg, length-scale_list, length-add_list_within}
 use Rattle.rational.proofs.Solve.{◌⊢◌, linear, contradiction}
 
 -- a sum of rows with factors of at least 0 is a row that each solution meets
@@ -31,3 +32,30 @@ weak_duality base c ys rs h k x p m = linear ℚ_ordered
     (base ∷ dot c x ∷ dot (sum_rows ys rs).factors x ∷ (sum_rows ys rs).bound ∷ dot (add_list c (sum_rows ys rs).factors) x ∷ [])
     (λ base cost sum bound all. (num 0 ≼ all ∷ all ≐ cost ⊕ sum ∷ sum ≼ bound ∷ []) ⊢ base ⊖ bound ≼ base ⊕ cost)
     (dot-nonneg (add_list c (sum_rows ys rs).factors) x k p, (dot-add c (sum_rows ys rs).factors x, (sum_rows-met ys rs x h m, tt))) refl
+
+-- ---- rows by their places
+pub Meets-at : (x : List ℚ) (rows : List Row) (r : ℕ) → r < length rows → Meets x rows → dot (row_at rows r).factors x ≤ℚ (row_at rows r).bound
+Meets-at x [] r h m = absurd (omega arith)
+Meets-at x (row ∷ rows) zero h m = m.0
+Meets-at x (row ∷ rows) (suc r) h m = Meets-at x rows r (omega arith) m.1
+
+pub at-Meets : (x : List ℚ) (rows : List Row) → ((r : ℕ) → r < length rows → dot (row_at rows r).factors x ≤ℚ (row_at rows r).bound) → Meets x rows
+at-Meets x [] f = tt
+at-Meets x (row ∷ rows) f = (f 0 (omega arith), at-Meets x rows (λ r h. f (suc r) (omega arith)))
+
+-- rows of n factors each: the one at a place has n, and past the end none
+pub row_at-length : (n : ℕ) (rows : List Row) (r : ℕ) → r < length rows → AllByRecursion (λ (row : Row). length row.factors ≡ n) rows → length (row_at rows r).factors ≡ n
+row_at-length n [] r h e = absurd (omega arith)
+row_at-length n (row ∷ rows) zero h e = e.0
+row_at-length n (row ∷ rows) (suc r) h e = row_at-length n rows r (omega arith) e.1
+
+pub row_at-length_within : (n : ℕ) (rows : List Row) (r : ℕ) → AllByRecursion (λ (row : Row). length row.factors ≡ n) rows → length (row_at rows r).factors ≤ n
+row_at-length_within n [] r h = omega arith
+row_at-length_within n (row ∷ rows) zero h = omega (arith, h.0)
+row_at-length_within n (row ∷ rows) (suc r) h = row_at-length_within n rows r h.1
+
+pub length-sum_rows : (n : ℕ) (ys : List ℚ) (rows : List Row) → AllByRecursion (λ (row : Row). length row.factors ≡ n) rows → length (sum_rows ys rows).factors ≤ n
+length-sum_rows n [] rows h = omega arith
+length-sum_rows n (y ∷ ys) [] h = omega arith
+length-sum_rows n (y ∷ ys) (row ∷ rows) h = length-add_list_within (scale_list y row.factors) (sum_rows ys rows).factors n
+    (omega (arith, length-scale_list y row.factors, h.0)) (length-sum_rows n ys rows h.1)

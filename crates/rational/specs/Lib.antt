@@ -7,3 +7,4 @@ pub mod Rows
 pub mod Segment
 pub mod Extremes
 pub mod Laws
+pub mod Decimals

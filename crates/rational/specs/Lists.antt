@@ -1,6 +1,10 @@
--- Lists of rational numbers: sums of products, sums and multiples of lists. Of two ragged lists the longer one's rest counts as zeros.
-use Rattle.std.specs.Prelude.{List, [], ◌∷◌}
+-- Believed: lists of rational numbers: sums of products, sums and multiples of lists. Of two ragged lists the longer one's rest counts as zeros.
+use Rattle.std.specs.Prelude.{ℕ, List, [], ◌∷◌, slice_index_or}
 use Rattle.rational.specs.Rational.{ℚ, zeroℚ, ◌+ℚ◌, ◌*ℚ◌, ◌≤ℚ◌}
+
+-- the number at a place; 0 past the end
+abbrev pub at : List ℚ → ℕ → ℚ
+at u k = slice_index_or u k zeroℚ
 
 -- a₁ + a₂ + ..
 abbrev pub sum_list : List ℚ → ℚ

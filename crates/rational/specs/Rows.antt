@@ -1,5 +1,5 @@
--- Rows `a₁ x₁ + a₂ x₂ + .. ≤ b` of a system of linear inequalities.
-use Rattle.std.specs.Prelude.{List, [], ◌∷◌}
+-- Believed: rows `a₁ x₁ + a₂ x₂ + .. ≤ b` of a system of linear inequalities.
+use Rattle.std.specs.Prelude.{ℕ, List, [], ◌∷◌, slice_index_or}
 use Rattle.rational.specs.Rational.{ℚ, zeroℚ, ◌+ℚ◌, ◌*ℚ◌, ◌≤ℚ◌}
 use Rattle.rational.specs.Lists.{dot, add_list, scale_list}
 
@@ -7,6 +7,14 @@ use Rattle.rational.specs.Lists.{dot, add_list, scale_list}
 pub record Row : Type 0 where
   pub factors : List ℚ
   pub bound : ℚ
+
+-- the row without factors, with the bound 0
+abbrev pub no_row : Row
+no_row = record { factors = []; bound = zeroℚ }
+
+-- the row at a place; `no_row` past the end
+abbrev pub row_at : List Row → ℕ → Row
+row_at rows r = slice_index_or rows r no_row
 
 -- the sum of the rows, each times its multiplier
 abbrev pub sum_rows : List ℚ → List Row → Row

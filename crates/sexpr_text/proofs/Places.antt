@@ -1,7 +1,8 @@
 -- What stands at a place, from the byte there and what goes before.
 use Rattle.std.proofs.Common.{◌≡◌, ℕ, zero, suc, ◌+◌, ◌-◌, ◌<◌, ◌≤◌, ◌≢◌, true, false, not, ◌||◌, ◌==◌, List, length, slice_index, refl, sym, ap, ◌∙◌, subst, inl, inr, arith, eqb-true, ne_eqb, eq-eqb, ltb-true, ltb-false, lt-ltb, le-ltb, nat_lt}
 use Rattle.std.proofs.lemmas.Bool.{true≢false, not-true, cases_lt, and_parts, or_cases, cases_Bool, and_from, and_left, and_right, not_from_true, not_from_false, cases_eq, eqb-false, or_parts, or_left, or_right}
-use Rattle.sexpr_text.specs.Comments.{is_blank, is_parenthesis, in_comment, is_code, is_written, opens_at, closes_at, in_run, StandsBehindSemicolon}
+use Rattle.basics.specs.Texts.{is_blank}
+use Rattle.sexpr_text.specs.Comments.{is_parenthesis, in_comment, is_code, is_written, opens_at, closes_at, in_run, StandsBehindSemicolon}
 use Rattle.sexpr_text.specs.Runs.{IsRun}
 use Rattle.sexpr_text.specs.Scan.{is_separator, IsClear, IsGap}
 

@@ -7,7 +7,8 @@ use Rattle.sexpr_text.specs.declared.token.TokenKind.TheVariants.{Open, Close, N
 use Rattle.sexpr_text.specs.declared.run.RunFault.{RunFault}
 use Rattle.sexpr_text.specs.Comments.{opens_at, closes_at, is_written, NothingWritten}
 use Rattle.sexpr_text.specs.declared.run.RunFault.TheVariants as of_run
-use Rattle.sexpr_text.specs.Runs.{IsRun, reading, is_name, is_variable, is_keyword, begins_as_number, is_number, digits, is_mark, is_time}
+use Rattle.basics.specs.Texts.{name_limit, digit_limit, is_name, digit_count, is_number}
+use Rattle.sexpr_text.specs.Runs.{IsRun, reading, is_variable, is_keyword, begins_as_number, is_mark, is_time}
 use Rattle.sexpr_text.specs.Token.{IsSpan, AreSpans, SameSpans}
 use Rattle.sexpr_text.proofs.Places.{opens_written, closes_written, run_written, opens_no_run, closes_no_run, opens_no_closes}
 
@@ -230,10 +231,10 @@ spells_cond false x y h k = k
 reading_spells : (run : List ℕ) → spells_run (reading run) ≡ true
 unfolding reading spells_run
 reading_spells run =
-    spells_cond (is_name run) _ _ (spells_cond (nat_le (length run) 64) (Ok Name) (Err of_run.LongName) refl refl)
-    (spells_cond (is_variable run) _ _ (spells_cond (nat_le (length (drop 1 run)) 64) (Ok Variable) (Err of_run.LongName) refl refl)
-    (spells_cond (is_keyword run) _ _ (spells_cond (nat_le (length (drop 1 run)) 64) (Ok Keyword) (Err of_run.LongName) refl refl)
-    (spells_cond (begins_as_number run) _ _ (spells_cond (is_number run && nat_le (digits run) 18) (Ok Number) (Err of_run.Malformed) refl refl)
+    spells_cond (is_name run) _ _ (spells_cond (nat_le (length run) name_limit) (Ok Name) (Err of_run.LongName) refl refl)
+    (spells_cond (is_variable run) _ _ (spells_cond (nat_le (length (drop 1 run)) name_limit) (Ok Variable) (Err of_run.LongName) refl refl)
+    (spells_cond (is_keyword run) _ _ (spells_cond (nat_le (length (drop 1 run)) name_limit) (Ok Keyword) (Err of_run.LongName) refl refl)
+    (spells_cond (begins_as_number run) _ _ (spells_cond (is_number run && nat_le (digit_count run) digit_limit) (Ok Number) (Err of_run.Malformed) refl refl)
     (spells_cond (is_mark run) (Ok Mark) _ refl
     (spells_cond (is_time run) (Ok Time) (Err of_run.Unknown) refl refl)))))
 

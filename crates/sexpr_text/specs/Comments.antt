@@ -1,9 +1,6 @@
--- The bytes of a text, its comments, and what is left beside them.
+-- Believed: the bytes of a text, its comments, and what is left beside them.
 use Rattle.std.specs.Prelude.{◌≡◌, ℕ, zero, suc, ◌≤◌, ◌<◌, ◌≢◌, Bool, false, not, ◌&&◌, ◌||◌, ◌==◌, List, length, nat_lt, slice_index}
-
--- the blanks: space, tab, line feed and carriage return
-abbrev pub is_blank : ℕ → Bool
-is_blank b = (b == 32) || ((b == 9) || ((b == 10) || (b == 13)))
+use Rattle.basics.specs.Texts.{is_blank}
 
 -- the two parentheses
 abbrev pub is_parenthesis : ℕ → Bool

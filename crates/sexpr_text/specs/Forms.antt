@@ -1,4 +1,4 @@
--- A text with its tokens, as contracts see it.
+-- Believed: a text with its tokens, as contracts see it.
 use Rattle.std.specs.Prelude.{◌≡◌, ℕ, ◌<◌, ◌≤◌, List, length, slice_index_or, All}
 use Rattle.sexpr_text.specs.declared.token.Token.{Token}
 use Rattle.sexpr_text.specs.declared.token.TokenKind.TheVariants.{Open, Close}

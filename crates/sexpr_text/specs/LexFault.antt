@@ -1,4 +1,4 @@
--- What is wrong with a text that has no tokens, and where.
+-- Believed: what is wrong with a text that has no tokens, and where.
 use Rattle.std.specs.Prelude.{◌≡◌, ℕ, ◌≤◌, true, List, slice_range, Err}
 use Rattle.sexpr_text.specs.declared.fault.LexFault.{LexFault}
 use Rattle.sexpr_text.specs.declared.fault.LexFault.TheVariants.{Byte, Open, Close, Deep, LongName, Number, Memory}

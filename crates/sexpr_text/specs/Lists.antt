@@ -1,4 +1,4 @@
--- Which parentheses belong together, and how deep lists lie in one another.
+-- Believed: which parentheses belong together, and how deep lists lie in one another.
 use Rattle.std.specs.Prelude.{◌≡◌, ℕ, zero, suc, ◌+◌, ◌≤◌, ◌<◌, true, List, if◌then◌else◌}
 use Rattle.sexpr_text.specs.Comments.{opens_at, closes_at}
 

@@ -1,7 +1,6 @@
--- Runs of bytes, and what a run spells: a name, a variable, a keyword, a number, a mark or the time.
-use Rattle.std.specs.Prelude.{◌≡◌, ℕ, suc, ◌≤◌, ◌<◌, Bool, true, false, ◌&&◌, ◌||◌, ◌==◌, List, [], ◌∷◌, drop, length, nat_le, nat_lt, count_by, if◌then◌else◌, Result, Ok, Err}
-use Rattle.std.specs.List.{list_all}
-use Rattle.std.specs.Char.{is_ascii_digit, is_ascii_alphabetic}
+-- Believed: runs of bytes, and what a run spells: a name, a variable, a keyword, a number, a mark or the time.
+use Rattle.std.specs.Prelude.{◌≡◌, ℕ, suc, ◌≤◌, ◌<◌, Bool, true, false, ◌&&◌, ◌||◌, ◌==◌, List, [], ◌∷◌, drop, length, nat_le, if◌then◌else◌, Result, Ok, Err}
+use Rattle.basics.specs.Texts.{name_limit, digit_limit, is_name, unsigned, is_digit_or_point, digit_count, is_number}
 use Rattle.sexpr_text.specs.declared.token.TokenKind.{TokenKind}
 use Rattle.sexpr_text.specs.declared.token.TokenKind.TheVariants.{Name, Variable, Keyword, Number, Mark, Time}
 use Rattle.sexpr_text.specs.declared.run.RunFault.{RunFault}
@@ -15,15 +14,6 @@ pub record IsRun (text : List ℕ) (at end : ℕ) : Type 0 where
   pub begins : (k : ℕ) → suc k ≡ at → in_run text k ≡ false
   pub ends : in_run text end ≡ false
 
--- a letter, a digit, a dash or an underscore
-abbrev pub is_name_byte : ℕ → Bool
-is_name_byte b = is_ascii_alphabetic b || (is_ascii_digit b || ((b == 45) || (b == 95)))
-
--- a letter, and then letters, digits, dashes and underscores
-abbrev pub is_name : List ℕ → Bool
-is_name [] = false
-is_name (b ∷ bs) = is_ascii_alphabetic b && list_all is_name_byte bs
-
 -- the prefix, and then a name
 abbrev pub is_prefixed : ℕ → List ℕ → Bool
 is_prefixed prefix [] = false
@@ -36,30 +26,6 @@ is_variable run = is_prefixed 63 run
 -- a colon and a name
 abbrev pub is_keyword : List ℕ → Bool
 is_keyword run = is_prefixed 58 run
-
--- what stands behind the minus, if there is one
-abbrev pub unsigned : List ℕ → List ℕ
-unsigned [] = []
-unsigned (b ∷ bs) = if b == 45 then bs else b ∷ bs
-
-abbrev pub is_digit_or_point : ℕ → Bool
-is_digit_or_point b = is_ascii_digit b || (b == 46)
-
--- how many digits there are
-abbrev pub digits : List ℕ → ℕ
-digits run = count_by is_ascii_digit run
-
--- how many points there are
-abbrev pub points : List ℕ → ℕ
-points run = count_by (λ b. b == 46) run
-
--- digits and at most one point, with at least one digit
-abbrev pub is_decimal : List ℕ → Bool
-is_decimal bytes = list_all is_digit_or_point bytes && (nat_le (points bytes) 1 && nat_lt 0 (digits bytes))
-
--- a minus or none, and then a decimal
-abbrev pub is_number : List ℕ → Bool
-is_number run = is_decimal (unsigned run)
 
 abbrev pub begins_with_digit_or_point : List ℕ → Bool
 begins_with_digit_or_point [] = false
@@ -87,13 +53,13 @@ is_time (b ∷ []) = false
 is_time (b ∷ c ∷ []) = (b == 35) && (c == 116)
 is_time (b ∷ c ∷ d ∷ bs) = false
 
--- a name of at most 64 bytes
+-- a name that isn't too long
 abbrev pub name_reading : TokenKind → List ℕ → Result TokenKind RunFault
-name_reading kind name = if nat_le (length name) 64 then Ok kind else Err LongName
+name_reading kind name = if nat_le (length name) name_limit then Ok kind else Err LongName
 
--- a number of at most 18 digits
+-- a number of not too many digits
 abbrev pub number_reading : List ℕ → Result TokenKind RunFault
-number_reading run = if is_number run && nat_le (digits run) 18 then Ok Number else Err Malformed
+number_reading run = if is_number run && nat_le (digit_count run) digit_limit then Ok Number else Err Malformed
 
 -- What a run spells, or what is wrong with it. The prefix of a variable or a keyword isn't counted among its bytes.
 unfoldable pub reading : List ℕ → Result TokenKind RunFault

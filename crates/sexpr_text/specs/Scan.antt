@@ -1,10 +1,11 @@
--- What the steps over a text keep: words for the private functions alone.
+-- Private: what the steps over a text keep.
 use Rattle.std.specs.Prelude.{◌≡◌, ℕ, suc, ◌+◌, ◌≤◌, ◌<◌, Bool, true, false, ◌||◌, ◌==◌, List, [], ◌∷◌, length, slice_index}
+use Rattle.basics.specs.Texts.{is_blank}
 use Rattle.sexpr_text.specs.declared.token.Token.{Token}
 use Rattle.sexpr_text.specs.declared.scan.Scanner.{Scanner}
-use Rattle.sexpr_text.specs.declared.bytes.Piece.{Piece}
-use Rattle.sexpr_text.specs.declared.bytes.Piece.TheVariants.{Gap, Open, Close, Run}
-use Rattle.sexpr_text.specs.Comments.{is_blank, is_parenthesis, in_comment, in_run, opens_at, closes_at, NothingWritten}
+use Rattle.sexpr_text.specs.declared.piece.Piece.{Piece}
+use Rattle.sexpr_text.specs.declared.piece.Piece.TheVariants.{Gap, Open, Close, Run}
+use Rattle.sexpr_text.specs.Comments.{is_parenthesis, in_comment, in_run, opens_at, closes_at, NothingWritten}
 use Rattle.sexpr_text.specs.Runs.{IsRun}
 use Rattle.sexpr_text.specs.Lists.{opened, closed, IsDeep}
 use Rattle.sexpr_text.specs.Token.{AreSpans}

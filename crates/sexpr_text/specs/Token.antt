@@ -1,4 +1,4 @@
--- What the tokens of a text are.
+-- Believed: what the tokens of a text are.
 use Rattle.std.specs.Prelude.{◌≡◌, ℕ, zero, suc, ◌≤◌, ◌≢◌, true, List, [], ◌∷◌, length, slice_get, slice_range, Some, Ok}
 use Rattle.sexpr_text.specs.declared.token.Token.{Token}
 use Rattle.sexpr_text.specs.declared.token.TokenKind.{TokenKind}

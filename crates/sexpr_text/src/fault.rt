@@ -1,3 +1,5 @@
+//! What is wrong with a text, and where.
+
 ghost use Rattle.std.specs.Prelude.{◌≡◌};
 ghost use Rattle.sexpr_text.specs.declared.fault.LexFault.TheVariants.{Memory};
 

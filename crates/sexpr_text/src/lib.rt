@@ -2,15 +2,16 @@
 //! names, variables, keywords, numbers, marks and the time `#t`, each with the bytes that it spans.
 #![tactic(auto)]
 
-mod bytes;
 mod fault;
 mod forms;
+pub mod laws;
+mod piece;
 mod run;
 mod scan;
 mod token;
 
 pub use fault::LexFault;
-pub use forms::{Forms, comments_end_at_line_feeds, fault_is_one, read_forms, tokens_are_one};
+pub use forms::{Forms, read_forms};
 pub use token::{Token, TokenKind};
 
 #[cfg(test)]

@@ -2,26 +2,16 @@
 
 ghost use Rattle.std.specs.Prelude.{◌≡◌};
 ghost use Rattle.std.specs.List.{list_all};
-ghost use Rattle.sexpr_text.specs.Runs.{
-  is_name_byte,
-  is_name,
-  is_prefixed,
-  unsigned,
-  is_digit_or_point,
-  digits,
-  points,
-  is_decimal,
-  is_number,
-  begins_as_number,
-  is_mark_byte,
-  is_mark,
-  is_time,
-  name_reading,
-  number_reading,
-  reading,
-};
+ghost use Rattle.basics.specs.Texts.{is_name_byte, is_name, unsigned, is_digit_or_point, digit_count, point_count, is_decimal};
+ghost use Rattle.sexpr_text.specs.Runs.{is_prefixed, begins_as_number, is_mark_byte, is_mark, is_time, name_reading, number_reading, reading};
 
 use crate::token::TokenKind;
+
+/// The most bytes of a name.
+const NAME_LIMIT: usize = 64;
+
+/// The most digits of a number.
+const DIGIT_LIMIT: usize = 18;
 
 /// What is wrong with a run.
 #[derive(Clone, Copy, Debug, PartialEq, Eq)]
@@ -79,14 +69,14 @@ fn is_digit_or_point(b: u8) -> bool
     b.is_ascii_digit() || b == b'.'
 }
 
-fn digits(run: &[u8]) -> usize
-    ensures { result ≡ digits run.now }
+fn digit_count(run: &[u8]) -> usize
+    ensures { result ≡ digit_count run.now }
 {
     run.iter().filter(|b| b.is_ascii_digit()).count()
 }
 
-fn points(run: &[u8]) -> usize
-    ensures { result ≡ points run.now }
+fn point_count(run: &[u8]) -> usize
+    ensures { result ≡ point_count run.now }
 {
     run.iter().filter(|b| **b == b'.').count()
 }
@@ -100,7 +90,7 @@ fn are_digits_and_points(bytes: &[u8]) -> bool
 fn is_decimal(bytes: &[u8]) -> bool
     ensures { result ≡ is_decimal bytes.now }
 {
-    are_digits_and_points(bytes) && points(bytes) <= 1 && digits(bytes) > 0
+    are_digits_and_points(bytes) && point_count(bytes) <= 1 && digit_count(bytes) > 0
 }
 
 fn begins_as_number(run: &[u8]) -> bool
@@ -140,7 +130,7 @@ fn is_time(run: &[u8]) -> bool
 fn name_reading(kind: TokenKind, name: &[u8]) -> Result<TokenKind, RunFault>
     ensures { result ≡ name_reading kind name.now }
 {
-    if name.len() <= 64 {
+    if name.len() <= NAME_LIMIT {
         Ok(kind)
     } else {
         Err(RunFault::LongName)
@@ -150,7 +140,7 @@ fn name_reading(kind: TokenKind, name: &[u8]) -> Result<TokenKind, RunFault>
 fn number_reading(run: &[u8]) -> Result<TokenKind, RunFault>
     ensures { result ≡ number_reading run.now }
 {
-    if is_decimal(unsigned(run)) && digits(run) <= 18 {
+    if is_decimal(unsigned(run)) && digit_count(run) <= DIGIT_LIMIT {
         Ok(TokenKind::Number)
     } else {
         Err(RunFault::Malformed)

@@ -24,8 +24,8 @@ ghost use Rattle.sexpr_text.specs.Lists.{opened, closed};
 ghost use Rattle.sexpr_text.specs.LexFault.{IsFault, IsFirstFault, MayRefuse, place_of, run_fault};
 ghost use Rattle.sexpr_text.specs.Scan.{IsClear, HasScanned, AreUnmated, AllClose, StaysOpen};
 
-use crate::bytes::{Piece, piece_at};
 use crate::fault::LexFault;
+use crate::piece::{Piece, piece_at};
 use crate::run::{RunFault, reading};
 use crate::token::{Token, TokenKind};
 use std::alloc::{AllocError, Global};

@@ -1,3 +1,5 @@
+//! Texts with the tokens and the faults that they are to have.
+
 use crate::{LexFault, Token, TokenKind, read_forms};
 use std::test::Fail;
 

@@ -1,5 +1,5 @@
 use Rattle.std.proofs.Common.{◌≡◌, ◌+◌, ◌*◌, ◌++◌}
-use Rattle.plan_text.specs.Products.{leading, IsNear}
+use Rattle.plan_text.specs.Quotients.{leading, IsNear}
 use Rattle.plan_text.proofs.compare.compare.Given as goal
 
 abbrev pub invariant-loop-i : goal.invariant-loop-i

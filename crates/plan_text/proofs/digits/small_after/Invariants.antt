@@ -1,6 +1,6 @@
 use Rattle.std.proofs.Common.{◌≡◌, ◌≤◌, drop}
 use Rattle.exact_lin.specs.Reckoning.{wide_limit}
-use Rattle.plan_text.specs.Digits.{number_after}
+use Rattle.basics.specs.Texts.{number_after}
 use Rattle.plan_text.proofs.digits.small_after.Given as goal
 
 abbrev pub invariant-loop-b : goal.invariant-loop-b

@@ -1,6 +1,6 @@
 use Rattle.std.proofs.Common.{sym, subst}
 use Rattle.std.proofs.lemmas.List.{take_rest}
-use Rattle.plan_text.specs.Products.{AreDigits}
+use Rattle.plan_text.specs.Quotients.{AreDigits}
 use Rattle.plan_text.proofs.DigitNumbers.{digits_drop}
 use Rattle.plan_text.proofs.digits.without_zeros.Goals as goal
 

@@ -1,5 +1,5 @@
 use Rattle.std.proofs.Common.{◌≡◌, ◌-◌, ◌≤◌, length, drop}
-use Rattle.plan_text.specs.Digits.{number}
+use Rattle.basics.specs.Texts.{number}
 use Rattle.plan_text.proofs.digits.without_zeros.Given as goal
 
 abbrev pub invariant-loop-zeros : goal.invariant-loop-zeros

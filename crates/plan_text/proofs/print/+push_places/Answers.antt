@@ -1,5 +1,5 @@
 use Rattle.std.proofs.Common.{ℕ, List, ◌+◌, ◌-◌, ◌/◌, ◌%◌, ◌++◌, ◌∷◌, [], ap, ◌∙◌, sym, append_assoc}
-use Rattle.plan_text.specs.Digits.{padded}
+use Rattle.plan_text.specs.Numbers.{padded}
 use Rattle.plan_text.proofs.Printing.{padded_more}
 use Rattle.plan_text.proofs.print.+push_places.Goals as goal
 

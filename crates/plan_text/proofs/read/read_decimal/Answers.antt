@@ -1,6 +1,6 @@
 use Rattle.std.proofs.Common.{◌<◌, ◌≤◌, ◌++◌, length, Some, arith, sym, subst, le-leb}
 use Rattle.std.proofs.lemmas.Bool.{and_from}
-use Rattle.plan_text.specs.Digits.{number}
+use Rattle.basics.specs.Texts.{number}
 use Rattle.plan_text.specs.Reading.{Gives}
 use Rattle.plan_text.proofs.Printing.{ten_pos}
 use Rattle.plan_text.proofs.ReadingLemmas.{ten_of_zeros, zeros_digits, gives_if}

@@ -1,6 +1,6 @@
 use Rattle.std.proofs.Common.{append-nil, sym, ◌∙◌}
 use Rattle.std.proofs.lemmas.Bool.{and_from, and_left, and_right, ltb-true}
-use Rattle.plan_text.specs.Digits.{number}
+use Rattle.basics.specs.Texts.{number}
 use Rattle.plan_text.proofs.ReadingLemmas.{above_zero, is_digits_all, gives_if, gives_none}
 use Rattle.plan_text.proofs.read.read_quotient.Goals as goal
 use Rattle.plan_text.proofs.read.read_quotient.Goals.{then-not-is_digits-via-then-not-is_digits, then-not-is_digits-via-else-not-is_digits+then-not-has_digit_above_zero}

@@ -1,6 +1,6 @@
 use Rattle.std.proofs.Common.{sym, subst, take, drop}
 use Rattle.plan_text.specs.Reading.{front_of}
-use Rattle.plan_text.specs.Products.{AreDigits}
+use Rattle.plan_text.specs.Quotients.{AreDigits}
 use Rattle.plan_text.proofs.ReadingLemmas.{front_digits, digits_front}
 use Rattle.plan_text.proofs.read.split_digits.Goals as goal
 

@@ -1,6 +1,6 @@
 use Rattle.std.proofs.Common.{◌≡◌, ◌<◌, true, false, length, rules, arith, ◌∙◌}
 use Rattle.std.specs.List.{list_all}
-use Rattle.planner_core.specs.PlanFile.{is_blank}
+use Rattle.basics.specs.Texts.{is_blank}
 use Rattle.planner_core.proofs.Scans.{written_blank, written_next}
 use Rattle.planner_core.proofs.plan_file.next_written.Goals as goal
 

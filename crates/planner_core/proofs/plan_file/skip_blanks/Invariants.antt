@@ -1,5 +1,5 @@
 use Rattle.std.proofs.Common.{◌≡◌, length}
-use Rattle.planner_core.specs.Scanning.{skip_blanks}
+use Rattle.planner_core.specs.LineScan.{skip_blanks}
 use Rattle.planner_core.proofs.plan_file.skip_blanks.Given as goal
 
 -- the same is left of the rest

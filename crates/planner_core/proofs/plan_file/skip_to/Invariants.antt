@@ -1,5 +1,5 @@
 use Rattle.std.proofs.Common.{◌≡◌, length}
-use Rattle.planner_core.specs.Scanning.{skip_to}
+use Rattle.planner_core.specs.LineScan.{skip_to}
 use Rattle.planner_core.proofs.plan_file.skip_to.Given as goal
 
 -- the same is left of the rest

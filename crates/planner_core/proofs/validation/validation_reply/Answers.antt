@@ -6,7 +6,9 @@ use Rattle.first_path.specs.declared.model.Rules.{Rules}
 use Rattle.first_path.specs.DomainText.{IsDomain}
 use Rattle.first_path.specs.Problem.{IsProblem}
 use Rattle.first_path.specs.Validity.{IsRight}
-use Rattle.first_path.specs.Course.{course, IsReckoned, IsFirstUndefined}
+use Rattle.exact_lin.specs.Reckoning.{wide_limit}
+use Rattle.exact_lin.specs.Reckonings.{AllDefined, IsFirstUndefined}
+use Rattle.first_path.specs.Course.{course}
 use Rattle.planner_core.specs.declared.reply.Role.TheVariants.{Domain, Problem, Plan}
 use Rattle.planner_core.specs.PlanFile.{IsPlanFile}
 use Rattle.planner_core.specs.Answers.{Unbuilt, Wide, Decided}
@@ -32,7 +34,7 @@ returns-in_default-read_plan_file c =
     let domain_read : IsDomain c.args.domain.now c.in-Some.read = search rules in
     let problem_read : IsProblem c.args.problem.now c.in-Some.read c.in-Some-2.task = search rules in
     let P : List ℕ → Type 0 = λ action. (number : ℕ) (line : PlanLine) → ¬ (IsPlanFile action c.args.plan.now number line) in
-    let none = subst P c.deref.ensures.value c.in_default-read_plan_file.ensures in
+    let none = subst P c.deref.ensures.value (λ number line. c.in_default-read_plan_file.ensures (number, line)) in
     told_right _ _ _ _ (Unbuilt Plan) (c.in-Some.read, (c.in-Some-2.task, (record { domain_read = domain_read; problem_read = problem_read }, none))) c.unbuilt_reply-in_default-read_plan_file.ensures
 
 pub returns-in-Ok : goal.returns-in-Ok
@@ -42,7 +44,7 @@ returns-in-Ok c =
     let line = c.in-Some-read_plan_file.started in
     let number = c.in-Some-read_plan_file.line in
     let all = are_read _ _ _ _ c.in-Some.read c.in-Some-2.task number line domain_read problem_read c.deref.ensures.value c.in-Some-read_plan_file.ensures in
-    let Q : Rules → Type 0 = λ r. IsReckoned (course r c.in-Some-2.task line) × IsRight r c.in-Some-2.task line c.in-Ok.verdict in
+    let Q : Rules → Type 0 = λ r. AllDefined wide_limit (course r c.in-Some-2.task line) × IsRight r c.in-Some-2.task line c.in-Ok.verdict in
     told_right _ _ _ _ (Decided number c.in-Ok.verdict) (c.in-Some-2.task, (line, (all, subst Q (same_rules _ c.standard.ensures.epsilon c.standard.ensures.horizon) c.in-Ok.ensures))) c.verdict_reply.ensures
 
 pub returns : goal.returns
@@ -52,5 +54,5 @@ returns c =
     let line = c.in-Some-read_plan_file.started in
     let number = c.in-Some-read_plan_file.line in
     let all = are_read _ _ _ _ c.in-Some.read c.in-Some-2.task number line domain_read problem_read c.deref.ensures.value c.in-Some-read_plan_file.ensures in
-    let Q : Rules → Type 0 = λ r. IsFirstUndefined (course r c.in-Some-2.task line) c.in-Err.place in
+    let Q : Rules → Type 0 = λ r. IsFirstUndefined wide_limit (course r c.in-Some-2.task line) c.in-Err.place in
     told_right _ _ _ _ (Wide number c.in-Err.place) (c.in-Some-2.task, (line, (all, subst Q (same_rules _ c.standard.ensures.epsilon c.standard.ensures.horizon) c.in-Err.ensures))) c.undefined_reply.ensures

@@ -1,5 +1,5 @@
 use Rattle.std.proofs.Common.{ℕ, ◌+◌, ◌*◌, ◌-◌, ◌++◌, get_or, arith, ap, sym, ◌∙◌}
-use Rattle.plan_text.specs.Products.{leading}
+use Rattle.plan_text.specs.Quotients.{leading}
 use Rattle.plan_text.proofs.DigitNumbers.{leading-digit}
 use Rattle.plan_text.proofs.digits.Digits.aligned.Goals as goal
 

@@ -1,6 +1,6 @@
 use Rattle.std.proofs.Common.{ℕ, sym, ap, ◌∙◌}
-use Rattle.plan_text.specs.Digits.{number_after}
-use Rattle.plan_text.proofs.DigitNumbers.{number_after-append}
+use Rattle.basics.specs.Texts.{number_after}
+use Rattle.basics.proofs.Texts.{number_after-append}
 use Rattle.plan_text.proofs.digits.Digits.trimmed.Goals as goal
 
 pub returns-clause-number : goal.returns-clause-number

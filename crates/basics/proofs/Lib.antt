@@ -1,0 +1,5 @@
+pub mod Duties
+pub mod Bools
+pub mod Naturals
+pub mod Lists
+pub mod Texts

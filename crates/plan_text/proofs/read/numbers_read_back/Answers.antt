@@ -1,5 +1,0 @@
-use Rattle.plan_text.proofs.Spelling.{number_text_spells}
-use Rattle.plan_text.proofs.read.numbers_read_back.Goals as goal
-
-pub returns : goal.returns
-returns c = number_text_spells

@@ -1,5 +1,0 @@
-use Rattle.sexpr_text.proofs.Unique.{one_list}
-use Rattle.sexpr_text.proofs.forms.tokens_are_one.Goals as goal
-
-pub returns : goal.returns
-returns c = one_list
