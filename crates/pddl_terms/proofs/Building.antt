@@ -1,5 +1,5 @@
 -- The trees of a text, one item after the other.
-use Rattle.std.proofs.Common.{◌≡◌, ℕ, List, [], ◌∷◌, ◌++◌, refl, sym, ap, ◌∙◌, append-nil, append_assoc, true, false, if◌then◌else◌, Result, Ok, Err}
+use Rattle.std.proofs.Common.{◌≡◌, ℕ, List, [], ◌∷◌, ◌++◌, refl, sym, ap, ◌∙◌, append-nil, append_assoc, true, false, if◌then◌else◌, Result, Ok, Err, pos}
 use Rattle.std.specs.Prelude.{IfOk}
 use Rattle.pddl_terms.specs.declared.grammar.Listed.{Listed}
 use Rattle.pddl_terms.specs.declared.grammar.Listed.TheVariants as listed
@@ -19,6 +19,9 @@ use Rattle.pddl_terms.specs.declared.trees.Trajectory.TheVariants as trail
 use Rattle.pddl_terms.specs.declared.trees.ConForm.TheVariants as con
 use Rattle.pddl_terms.specs.Content.{Content, Lexeme, End, Word, Inner, behind}
 use Rattle.pddl_terms.specs.Items.{IsNoList, IsNoWord}
+use Rattle.rational.specs.Rational.{whole}
+use Rattle.pddl_terms.specs.Words.{is_number}
+use Rattle.pddl_terms.specs.Numbers.{number_value, number_at}
 use Rattle.pddl_terms.specs.Typed.{name_of, term_of, terms, is_listed, type_of, group_of, groups, groups_of, variables}
 use Rattle.pddl_terms.specs.Expressions.{expr_head, expr_word, expr_by, expr_list, exprs, expr_behind, expr_tree, side_word, side_tree}
 use Rattle.pddl_terms.specs.Conditions.{cond_head, cmp_by, cmp_list, cmp_tree, denied_by, denied_list, denied_tree, cond_by, cond_list, conds, cond_behind, cond_tree}
@@ -29,6 +32,10 @@ use Rattle.pddl_terms.specs.Constraints.{con_head, trail_of, trail_list, trail_t
 pub answered : {A E : Type 0} (r : Result A E) {a b : A} → a ≡ b → IfOk r (λ x. x ≡ a) → IfOk r (λ x. x ≡ b)
 answered (Ok x) e h = h ∙ e
 answered (Err x) e h = tt
+
+-- a list whose content is told
+pub holding : {at : ℕ} {x y z more : Content} → x ≡ Inner at y more → y ≡ z → x ≡ Inner at z more
+holding {at} {x} {y} {z} {more} e f = e ∙ ap (λ c. Inner at c more) f
 
 module _ (x : Content) where
   pub terms-end : (c : ℕ) → x ≡ End c → terms x ≡ []
@@ -54,6 +61,22 @@ module _ (x : Content) where
   pub type_of-list : (at : ℕ) (inner more : Content) → x ≡ Inner at inner more → type_of x ≡ type.LeftOut at
   unfolding type_of
   type_of-list at inner more e = ap type_of e
+
+  pub number_at-end : (c : ℕ) → x ≡ End c → number_at x ≡ whole (pos 0)
+  unfolding number_at
+  number_at-end c e = ap number_at e
+
+  pub number_at-number : (w : Lexeme) (more : Content) → x ≡ Word w more → is_number w.kind ≡ true → number_at x ≡ number_value w.bytes
+  unfolding number_at
+  number_at-number w more e f = ap number_at e ∙ ap (λ b. if b then number_value w.bytes else whole (pos 0)) f
+
+  pub number_at-other : (w : Lexeme) (more : Content) → x ≡ Word w more → is_number w.kind ≡ false → number_at x ≡ whole (pos 0)
+  unfolding number_at
+  number_at-other w more e f = ap number_at e ∙ ap (λ b. if b then number_value w.bytes else whole (pos 0)) f
+
+  pub number_at-list : (at : ℕ) (inner more : Content) → x ≡ Inner at inner more → number_at x ≡ whole (pos 0)
+  unfolding number_at
+  number_at-list at inner more e = ap number_at e
 
   pub variables-end : (c : ℕ) → x ≡ End c → variables x ≡ []
   unfolding variables

@@ -17,7 +17,7 @@ ghost use Rattle.pddl_terms.specs.Conditions.{
 
 use crate::expressions::{expr_tree, side_tree};
 use crate::heads::{CondHead, cond_head};
-use crate::items::{Item, Beginning, item_at, next, beginning_at, word_bytes};
+use crate::items::{Beginning, Item, beginning_at, item_at, next, word_bytes};
 use crate::trees::{Comparison, CondTree};
 use crate::typed::{atom_of, variables};
 use exact_lin::NoMemory;

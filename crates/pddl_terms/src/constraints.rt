@@ -14,7 +14,7 @@ ghost use Rattle.pddl_terms.specs.Constraints.{
 
 use crate::formulas::fact_tree;
 use crate::heads::{ConHead, TrailHead, con_head};
-use crate::items::{Item, Beginning, item_at, next, beginning_at, word_bytes};
+use crate::items::{Beginning, Item, beginning_at, item_at, next, word_bytes};
 use crate::numbers::number_at;
 use crate::trees::{ConForm, Trajectory};
 use crate::typed::{name_of, variables};

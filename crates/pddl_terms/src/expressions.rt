@@ -14,7 +14,7 @@ ghost use Rattle.pddl_terms.specs.Expressions.{
 };
 
 use crate::heads::{ExprHead, expr_head};
-use crate::items::{Item, Beginning, item_at, next, beginning_at, word_bytes};
+use crate::items::{Item, item_at, next, word_bytes};
 use crate::numbers::number_value;
 use crate::trees::{ExprTree, Side};
 use crate::typed::{atom_of, bare_atom, name_of};

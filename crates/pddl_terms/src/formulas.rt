@@ -7,7 +7,7 @@ ghost use Rattle.pddl_terms.specs.Formulas.{fact_by, facts, fact_tree};
 
 use crate::expressions::side_tree;
 use crate::heads::{TreeHead, tree_head};
-use crate::items::{Item, Beginning, item_at, next, beginning_at, word_bytes};
+use crate::items::{Beginning, Item, beginning_at, item_at, next, word_bytes};
 use crate::trees::FactForm;
 use crate::typed::{atom_of, variables};
 use exact_lin::NoMemory;

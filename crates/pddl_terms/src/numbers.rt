@@ -1,33 +1,37 @@
 //! The value of a number.
 
-ghost use Rattle.std.specs.Prelude.{◌≡◌, ◌≤◌, ◌<◌, ◌^◌, Ok};
-ghost use Rattle.sexpr_text.specs.Runs.{digits, reading};
+ghost use Rattle.std.specs.Prelude.{◌≡◌, ◌≤◌, ◌<◌, ◌^◌, Ok, pos};
+ghost use Rattle.rational.specs.Rational.{ratio};
+ghost use Rattle.basics.specs.Texts.{number, digit_count, digit_limit, behind_point};
+ghost use Rattle.sexpr_text.specs.Runs.{reading};
 ghost use Rattle.sexpr_text.specs.declared.token.TokenKind.TheVariants.{Number};
 ghost use Rattle.pddl_terms.specs.Content.{content_at};
-ghost use Rattle.pddl_terms.specs.Numbers.{whole_number, behind_point, is_negative, size, number_value, number_at};
+ghost use Rattle.pddl_terms.specs.Numbers.{digits_of, is_negative, size, number_value, number_at};
 
 use crate::items::{Item, item_at, word_bytes};
 use crate::words::is_number;
 use exact_lin::{Fraction, Scalar};
 use sexpr_text::Forms;
 
-/// The digits, read as one whole number.
-fn whole_number(bytes: &[u8]) -> u64
-    requires { digits bytes.now ≤ 18 }
-    ensures value { result ≡ whole_number bytes.now }
-    ensures bound { result < 10 ^ digits bytes.now }
+/// The number that the digits among the bytes stand for.
+fn number(bytes: &[u8]) -> u64
+    requires { digit_count bytes.now ≤ digit_limit }
+    ensures value { result ≡ number (digits_of bytes.now) }
+    ensures bound { result < 10 ^ digit_count bytes.now }
 {
     let mut number = 0;
-    for byte in bytes {
+    let mut left = bytes;
+    while let Some((byte, rest)) = left.split_first() {
         if byte.is_ascii_digit() {
-            number = number * 10 + (*byte - b'0') as u64;
+            number = 10 * number + (*byte - b'0') as u64;
         }
+        left = rest;
     }
     number
 }
 
-fn digits(bytes: &[u8]) -> usize
-    ensures { result ≡ digits bytes.now }
+fn digit_count(bytes: &[u8]) -> usize
+    ensures { result ≡ digit_count bytes.now }
 {
     bytes.iter().filter(|b| b.is_ascii_digit()).count()
 }
@@ -55,12 +59,20 @@ fn is_negative(bytes: &[u8]) -> bool
     }
 }
 
+fn quotient(number: u64, scale: u64) -> Fraction
+    requires { 0 < scale }
+    ensures { result ≡ ratio (pos number) scale }
+{
+    Fraction::of_parts(number as i128, scale as i128).unwrap()
+}
+
+/// The number without its minus.
 fn size(bytes: &[u8]) -> Fraction
-    requires { digits bytes.now ≤ 18 }
+    requires { digit_count bytes.now ≤ digit_limit }
     ensures { result ≡ size bytes.now }
 {
-    let scale = 10u64.pow(digits(behind_point(bytes)) as u32);
-    Fraction::of_parts(whole_number(bytes) as i128, scale as i128).unwrap()
+    let scale = 10u64.pow(digit_count(behind_point(bytes)) as u32);
+    quotient(number(bytes), scale)
 }
 
 /// The value of a number's bytes.
@@ -81,7 +93,14 @@ pub(crate) fn number_at(forms: &Forms, at: usize) -> Fraction
     ensures { result ≡ number_at (content_at forms.now at) }
 {
     match item_at(forms, at) {
-        Item::Word(token) if is_number(token.kind) => number_value(word_bytes(forms, token)),
-        _ => Fraction::of_int(0),
+        Item::Word(token) => {
+            if is_number(token.kind) {
+                number_value(word_bytes(forms, token))
+            } else {
+                Fraction::of_int(0)
+            }
+        }
+        Item::End(_) => Fraction::of_int(0),
+        Item::List(_) => Fraction::of_int(0),
     }
 }

@@ -1,5 +1,5 @@
 use Rattle.std.proofs.Common.{◌≡◌, length}
-use Rattle.pddl_terms.specs.Numbers.{behind_point}
+use Rattle.basics.specs.Texts.{behind_point}
 use Rattle.pddl_terms.proofs.numbers.behind_point.Given as goal
 
 abbrev pub invariant-loop-first : goal.invariant-loop-first
