@@ -1,5 +1,5 @@
 -- The trees of a text, one item after the other.
-use Rattle.std.proofs.Common.{◌≡◌, ℕ, List, [], ◌∷◌, ◌++◌, refl, sym, ap, ◌∙◌, append-nil, append_assoc, true, false, if◌then◌else◌, Result, Ok, Err, pos}
+use Rattle.std.proofs.Common.{◌≡◌, ℕ, List, [], ◌∷◌, ◌++◌, refl, sym, ap, ◌∙◌, append-nil, append_assoc, true, false, if◌then◌else◌, Result, Ok, Err, pos, Some, None}
 use Rattle.std.specs.Prelude.{IfOk}
 use Rattle.pddl_terms.specs.declared.grammar.Listed.{Listed}
 use Rattle.pddl_terms.specs.declared.grammar.Listed.TheVariants as listed
@@ -15,6 +15,7 @@ use Rattle.pddl_terms.specs.declared.trees.ExprTree.TheVariants as expr
 use Rattle.pddl_terms.specs.declared.trees.Side.TheVariants as side
 use Rattle.pddl_terms.specs.declared.trees.CondTree.TheVariants as cond
 use Rattle.pddl_terms.specs.declared.trees.FactForm.TheVariants as fact
+use Rattle.pddl_terms.specs.declared.trees.Trajectory.{Trajectory}
 use Rattle.pddl_terms.specs.declared.trees.Trajectory.TheVariants as trail
 use Rattle.pddl_terms.specs.declared.trees.ConForm.TheVariants as con
 use Rattle.pddl_terms.specs.Content.{Content, Lexeme, End, Word, Inner, behind}
@@ -338,6 +339,20 @@ module _ (x : Content) where
       → trail_of h at z ≡ trail_tree x
   unfolding trail_tree trail_list
   trail_tree-by h at w z more e f k = ap (λ g. trail_of g at z) (e ∙ ap con_head f) ∙ sym (ap trail_tree k)
+
+module _ (at : ℕ) (x : Content) where
+  pub preference-end : (c : ℕ) → x ≡ End c → preference at x ≡ con.Preference at None (trail.LeftOut 0)
+  unfolding preference
+  preference-end c e = ap (preference at) e
+
+  pub preference-word : (w : Lexeme) (more : Content) → x ≡ Word w more → (n : Name) (t : Trajectory) → n ≡ name_of w → t ≡ trail_tree more
+      → con.Preference at (Some n) t ≡ preference at x
+  unfolding preference
+  preference-word w more e n t f g = ap (λ m. con.Preference at (Some m) t) f ∙ ap (con.Preference at (Some (name_of w))) g ∙ sym (ap (preference at) e)
+
+  pub preference-list : (place : ℕ) (inner more : Content) → x ≡ Inner place inner more → preference at x ≡ con.Preference at None (trail_tree x)
+  unfolding preference trail_tree
+  preference-list place inner more e = ap (preference at) e ∙ ap (λ y. con.Preference at None (trail_tree y)) (sym e)
 
 module _ (x : Content) where
   pub cons-end : (c : ℕ) → x ≡ End c → cons x ≡ []

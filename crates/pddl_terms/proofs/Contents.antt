@@ -73,6 +73,23 @@ module _ (l : Lexed) (ts : List Token) (e : ts ≡ l.tokens) (i : ℕ) (d : Toke
       spelt = span-word l.text t.at t.end t.kind o c (spans-drop l.text 0 (length l.text) ts i t a.spans (get_from_read ts i d h)).1;
     }
 
+-- where a list stands, a parenthesis opens it, and what it holds begins at the next token
+pub at-open : (l : Lexed) (i : ℕ) (d : Token) → i < length l.tokens → (v : ℕ) (inner more : Content) → content_at l i ≡ Inner v inner more
+    → ((slice_index_or l.tokens i d).kind ≡ Open) × (content_at l (i + 1) ≡ inner)
+unfolding content_at
+at-open l i d h v inner more e = by_kind (slice_index_or l.tokens i d).kind refl (sym (ap top (levels-at l.text l.tokens i d h)) ∙ e)
+  where
+    t : Token
+    t = slice_index_or l.tokens i d
+
+    outer : List Content
+    outer = levels l.text (drop (i + 1) l.tokens)
+
+    by_kind : (k : TokenKind) → t.kind ≡ k → top (level l.text k t outer) ≡ Inner v inner more → (t.kind ≡ Open) × (top outer ≡ inner)
+    by_kind Open k f = (k, cc)
+    by_kind Close k f = absurd cc
+    by_kind other k f = absurd cc
+
 -- What a loop has put out and what it still has to put out are the whole.
 pub pushed : {A : Type 0} (f : Content → List A) (out new all : List A) (x : A) (c later : Content) → out ++ f c ≡ all → f c ≡ x ∷ f later → new ≡ out ++ x ∷ [] → new ++ f later ≡ all
 pushed f out new all x c later j e n = ap (λ l. l ++ f later) n ∙ append_assoc out (x ∷ []) (f later) ∙ ap (λ l. out ++ l) (sym e) ∙ j

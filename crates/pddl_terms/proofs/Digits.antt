@@ -116,7 +116,7 @@ number-few run e = at_name (is_name run) (is_variable run) (is_keyword run) (beg
   where
     at_name : (a b c d f g : Bool)
         → (if a then name_reading Name run else (if b then name_reading Variable (drop 1 run) else (if c then name_reading Keyword (drop 1 run)
-          else (if d then number_reading run else (if f then Ok Mark else (if g then Ok Time else Err Unknown)))))) ≡ Ok Number
+        else (if d then number_reading run else (if f then Ok Mark else (if g then Ok Time else Err Unknown)))))) ≡ Ok Number
         → digit_count run ≤ 18
     at_name true b c d f g e = absurd (no_name Name run (λ k. absurd cc) e)
     at_name false true c d f g e = absurd (no_name Variable (drop 1 run) (λ k. absurd cc) e)

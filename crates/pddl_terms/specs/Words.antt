@@ -32,13 +32,13 @@ is_term_or_end kind = false
 abbrev pub is_left_out_list : List ℕ → Bool
 is_left_out_list word =
     same_word word (codes "either") || (same_word word (codes "when") || (same_word word (codes "scale-up")
-      || (same_word word (codes "scale-down") || same_word word (codes ":derived"))))
+    || (same_word word (codes "scale-down") || same_word word (codes ":derived"))))
 
 -- words that begin left-out constraints and sections
 abbrev pub is_left_out_formula : List ℕ → Bool
 is_left_out_formula word =
     same_word word (codes "always-within") || (same_word word (codes "hold-during") || (same_word word (codes "hold-after")
-      || (same_word word (codes ":process") || same_word word (codes ":event"))))
+    || (same_word word (codes ":process") || same_word word (codes ":event"))))
 
 -- words that begin a left-out list wherever it stands
 unfoldable pub is_left_out : List ℕ → Bool
@@ -48,4 +48,4 @@ is_left_out word = is_left_out_list word || is_left_out_formula word
 unfoldable pub is_left_out_of_condition : List ℕ → Bool
 is_left_out_of_condition word =
     is_left_out word || (same_word word (codes "or") || (same_word word (codes "imply") || (same_word word (codes "exists")
-      || same_word word (codes "preference"))))
+    || same_word word (codes "preference"))))

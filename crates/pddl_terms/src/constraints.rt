@@ -93,14 +93,11 @@ fn preference(alloc: Global, forms: &Forms, place: u32, at: usize) -> Result<Con
 {
     match item_at(forms, at) {
         Item::Word(token) => {
-            let trail = trail_tree(alloc, forms, at + 1)?;
             let name = name_of(alloc, forms, token)?;
-            Ok(ConForm::Preference(place, Some(name), trail))
+            Ok(ConForm::Preference(place, Some(name), trail_tree(alloc, forms, at + 1)?))
         }
-        Item::End(_) | Item::List(_) => {
-            let trail = trail_tree(alloc, forms, at)?;
-            Ok(ConForm::Preference(place, None, trail))
-        }
+        Item::End(_) => Ok(ConForm::Preference(place, None, Trajectory::LeftOut(0))),
+        Item::List(_) => Ok(ConForm::Preference(place, None, trail_tree(alloc, forms, at)?)),
     }
 }
 

@@ -5,7 +5,7 @@ ghost use Rattle.pddl_terms.specs.Grammar.{wanted, after, only_if};
 
 /// What may stand at one place: a line of the grammar.
 #[derive(Clone, Copy)]
-pub(crate) enum Line {
+pub enum Line {
     Term,
     Number,
     /// `( typedvars )`
@@ -26,14 +26,14 @@ pub(crate) enum Line {
 
 /// What a typed list lists.
 #[derive(Clone, Copy)]
-pub(crate) enum Listed {
+pub enum Listed {
     Names,
     Variables,
 }
 
 /// What may still follow in a list.
 #[derive(Clone, Copy)]
-pub(crate) enum Rest {
+pub enum Rest {
     Nothing,
     One(Line),
     Two(Line, Line),

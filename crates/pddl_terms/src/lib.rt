@@ -12,6 +12,7 @@ mod formulas;
 mod grammar;
 mod heads;
 mod items;
+mod laws;
 mod lines;
 mod numbers;
 mod readers;
@@ -21,6 +22,8 @@ mod typed;
 mod words;
 
 pub use faults::{Kind, PddlFault};
+pub use grammar::{Line, Listed, Rest};
+pub use laws::first_is_least;
 pub use readers::{read_condition, read_constraint, read_expression, read_tree, read_typed};
 pub use trees::{
     Atom, Comparison, ConForm, CondTree, ExprTree, FactForm, Group, Name, Side, Term, Trajectory,

@@ -81,11 +81,7 @@ pub(crate) fn number_value(bytes: &[u8]) -> Fraction
     ensures { result ≡ number_value bytes.now }
 {
     let size = size(bytes);
-    if is_negative(bytes) {
-        size.neg()
-    } else {
-        size
-    }
+    if is_negative(bytes) { size.neg() } else { size }
 }
 
 /// The value of the number that stands at a token, or 0 where none does.

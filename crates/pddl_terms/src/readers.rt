@@ -1,22 +1,15 @@
 //! The readers of parts of a text.
 
-ghost use Rattle.std.specs.Prelude.{◌≡◌, ◌<◌, ◌⊎◌, ℕ, [], List, length, IfOk, IfErr, MatchResult};
-ghost use Rattle.pddl_terms.specs.declared.faults.Kind.TheVariants.{Shape};
-ghost use Rattle.pddl_terms.specs.declared.faults.PddlFault.TheVariants.{At, Memory};
+ghost use Rattle.std.specs.Prelude.{◌≡◌, ◌<◌, [], length};
 ghost use Rattle.pddl_terms.specs.declared.grammar.Line.TheVariants.{Cond, Tree, EffectExpr, Con};
-ghost use Rattle.pddl_terms.specs.declared.trees.CondTree.{CondTree};
-ghost use Rattle.pddl_terms.specs.declared.trees.FactForm.{FactForm};
-ghost use Rattle.pddl_terms.specs.declared.trees.ExprTree.{ExprTree};
-ghost use Rattle.pddl_terms.specs.declared.trees.ConForm.{ConForm};
-ghost use Rattle.pddl_terms.specs.declared.trees.Group.{Group};
 ghost use Rattle.pddl_terms.specs.Content.{content_at};
-ghost use Rattle.pddl_terms.specs.Shape.{wrong_item, IsFirst};
+ghost use Rattle.pddl_terms.specs.Shape.{wrong_item};
 ghost use Rattle.pddl_terms.specs.Typed.{groups};
 ghost use Rattle.pddl_terms.specs.Conditions.{cond_tree};
 ghost use Rattle.pddl_terms.specs.Expressions.{expr_tree};
 ghost use Rattle.pddl_terms.specs.Formulas.{fact_tree};
 ghost use Rattle.pddl_terms.specs.Constraints.{con_tree};
-ghost use Rattle.pddl_terms.specs.Readings.{Derives, MayFail, listed, wrong_typed};
+ghost use Rattle.pddl_terms.specs.Readings.{Reads, listed, wrong_typed};
 
 use crate::conditions::cond_tree;
 use crate::constraints::con_tree;
@@ -35,8 +28,7 @@ use std::alloc::Global;
 /// Reads the condition that stands at a token: the line `cond` of the grammar.
 pub fn read_condition(alloc: Global, forms: &Forms, at: u32) -> Result<CondTree, PddlFault>
     requires { at < length forms.now.tokens }
-    ensures read { IfOk result (Derives (wrong_item Cond (content_at forms.now at)) (cond_tree (content_at forms.now at))) }
-    ensures fault { IfErr result (MayFail (wrong_item Cond (content_at forms.now at))) }
+    ensures { Reads (wrong_item Cond (content_at forms.now at)) (cond_tree (content_at forms.now at)) result }
 {
     let at = at as usize;
     if let Some(place) = first_wrong_item(forms, at, Line::Cond) {
@@ -48,8 +40,7 @@ pub fn read_condition(alloc: Global, forms: &Forms, at: u32) -> Result<CondTree,
 /// Reads the formula over facts that stands at a token: the line `tree` of the grammar.
 pub fn read_tree(alloc: Global, forms: &Forms, at: u32) -> Result<FactForm, PddlFault>
     requires { at < length forms.now.tokens }
-    ensures read { IfOk result (Derives (wrong_item Tree (content_at forms.now at)) (fact_tree (content_at forms.now at))) }
-    ensures fault { IfErr result (MayFail (wrong_item Tree (content_at forms.now at))) }
+    ensures { Reads (wrong_item Tree (content_at forms.now at)) (fact_tree (content_at forms.now at)) result }
 {
     let at = at as usize;
     if let Some(place) = first_wrong_item(forms, at, Line::Tree) {
@@ -61,8 +52,7 @@ pub fn read_tree(alloc: Global, forms: &Forms, at: u32) -> Result<FactForm, Pddl
 /// Reads the expression that stands at a token: the line `expr` of the grammar, `?duration` included.
 pub fn read_expression(alloc: Global, forms: &Forms, at: u32) -> Result<ExprTree, PddlFault>
     requires { at < length forms.now.tokens }
-    ensures read { IfOk result (Derives (wrong_item EffectExpr (content_at forms.now at)) (expr_tree (content_at forms.now at))) }
-    ensures fault { IfErr result (MayFail (wrong_item EffectExpr (content_at forms.now at))) }
+    ensures { Reads (wrong_item EffectExpr (content_at forms.now at)) (expr_tree (content_at forms.now at)) result }
 {
     let at = at as usize;
     if let Some(place) = first_wrong_item(forms, at, Line::EffectExpr) {
@@ -74,8 +64,7 @@ pub fn read_expression(alloc: Global, forms: &Forms, at: u32) -> Result<ExprTree
 /// Reads the constraint that stands at a token: the line `con` of the grammar.
 pub fn read_constraint(alloc: Global, forms: &Forms, at: u32) -> Result<ConForm, PddlFault>
     requires { at < length forms.now.tokens }
-    ensures read { IfOk result (Derives (wrong_item Con (content_at forms.now at)) (con_tree (content_at forms.now at))) }
-    ensures fault { IfErr result (MayFail (wrong_item Con (content_at forms.now at))) }
+    ensures { Reads (wrong_item Con (content_at forms.now at)) (con_tree (content_at forms.now at)) result }
 {
     let at = at as usize;
     if let Some(place) = first_wrong_item(forms, at, Line::Con) {
@@ -98,8 +87,7 @@ fn listed(forms: &Forms, from: usize) -> Listed
 /// the grammar where the token is a variable, and else the line `typed`.
 pub fn read_typed(alloc: Global, forms: &Forms, from: u32) -> Result<Items<Group>, PddlFault>
     requires { from < length forms.now.tokens }
-    ensures read { IfOk result (Derives (wrong_typed (content_at forms.now from)) (groups (listed (content_at forms.now from)) [] (content_at forms.now from))) }
-    ensures fault { IfErr result (MayFail (wrong_typed (content_at forms.now from))) }
+    ensures { Reads (wrong_typed (content_at forms.now from)) (groups (listed (content_at forms.now from)) [] (content_at forms.now from)) result }
 {
     let from = from as usize;
     let of = listed(forms, from);

@@ -144,11 +144,7 @@ pub(crate) fn groups(
 }
 
 /// The groups of a list of variables that stands at a token.
-pub(crate) fn variables(
-    alloc: Global,
-    forms: &Forms,
-    at: usize,
-) -> Result<Items<Group>, NoMemory>
+pub(crate) fn variables(alloc: Global, forms: &Forms, at: usize) -> Result<Items<Group>, NoMemory>
     ensures { IfOk result (λ found. found ≡ variables (content_at forms.now at)) }
 {
     match item_at(forms, at) {

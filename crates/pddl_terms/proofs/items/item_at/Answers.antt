@@ -16,8 +16,8 @@ pub returns-in-Open : goal.returns-in-Open
 returns-in-Open c =
     let same = sym c.tokens-tokens.ensures.value in
     let mates = encloses c.args.forms.now c.tokens-tokens.result.now c.tokens-tokens.ensures.value c.args.at (record { kind = Open; at = 0; end = 0; mate = 0 }) c.if-at-tokens.false
-        (subst (AreTokens c.args.forms.now.text) same c.tokens-tokens.ensures.lexed) (subst MatesAreBehind same c.tokens-tokens.ensures.behind)
-        (subst MatesLeadBack same c.tokens-tokens.ensures.back) c.in-Open.is in
+    (subst (AreTokens c.args.forms.now.text) same c.tokens-tokens.ensures.lexed) (subst MatesAreBehind same c.tokens-tokens.ensures.behind)
+    (subst MatesLeadBack same c.tokens-tokens.ensures.back) c.in-Open.is in
     record {
       here = item-list c.args.forms.now c.tokens-tokens.result.now c.tokens-tokens.ensures.value c.args.at _ c.if-at-tokens.false c.in-Open.is mates;
       later = mates.later;
