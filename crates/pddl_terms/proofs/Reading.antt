@@ -6,7 +6,7 @@ use Rattle.pddl_terms.specs.declared.faults.PddlFault.TheVariants.{At, Memory}
 use Rattle.pddl_terms.specs.Shape.{IsFirst}
 use Rattle.pddl_terms.specs.Readings.{Derives, Reads}
 
-not_both : {A : Type 0} (places : List ℕ) (place : ℕ) → places ≡ [] → IsFirst place places → ⊥
+not_both : (places : List ℕ) (place : ℕ) → places ≡ [] → IsFirst place places → ⊥
 not_both places place e f = let both : ◌≡◌ {A = List ℕ} [] (place ∷ f.0) = sym e ∙ f.1 in cc
 
 same_first : (places : List ℕ) (place other : ℕ) → IsFirst place places → IsFirst other places → place ≡ other

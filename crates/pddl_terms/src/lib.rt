@@ -29,3 +29,6 @@ pub use trees::{
     Atom, Comparison, ConForm, CondTree, ExprTree, FactForm, Group, Name, Side, Term, Trajectory,
     TypeName,
 };
+
+#[cfg(test)]
+mod tests;

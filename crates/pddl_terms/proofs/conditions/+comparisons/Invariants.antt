@@ -1,4 +1,4 @@
-use Rattle.std.proofs.Common.{◌≡◌, ◌≤◌, ◌-◌, ◌+◌, ◌*◌, ◌++◌, length}
+use Rattle.std.proofs.Common.{◌-◌, ◌+◌, ◌*◌, length}
 use Rattle.pddl_terms.proofs.conditions.+comparisons.Given as goal
 
 abbrev pub decreases-cmp_tree : goal.decreases-cmp_tree

@@ -1,4 +1,4 @@
-use Rattle.std.proofs.Common.{◌∙◌, sym, ap, ◌++◌, ◌∷◌, [], arith}
+use Rattle.std.proofs.Common.{◌∙◌, ap, ◌++◌, ◌∷◌, [], arith}
 use Rattle.pddl_terms.specs.Expressions.{exprs}
 use Rattle.pddl_terms.proofs.Contents.{pushed, ended}
 use Rattle.pddl_terms.proofs.Building.{answered, holding, exprs-end, exprs-word, exprs-list, expr_tree-end, expr_tree-word, expr_tree-empty, expr_tree-by}

@@ -1,4 +1,4 @@
-use Rattle.std.proofs.Common.{◌≡◌, List, length, subst, sym, arith, ◌<◌, slice_index_or}
+use Rattle.std.proofs.Common.{List, length, subst, sym, arith, ◌<◌, slice_index_or}
 use Rattle.sexpr_text.specs.declared.token.Token.{Token}
 use Rattle.sexpr_text.specs.declared.token.TokenKind.TheVariants.{Open}
 use Rattle.sexpr_text.specs.Token.{AreTokens}

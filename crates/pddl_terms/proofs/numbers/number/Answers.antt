@@ -1,6 +1,6 @@
 use Rattle.std.proofs.Common.{◌∙◌, sym, arith}
 use Rattle.std.proofs.Math.Facts.{Fits-of_lt}
-use Rattle.pddl_terms.proofs.Digits.{next-fits, reads-digit, reads-other}
+use Rattle.pddl_terms.proofs.Digits.{next-fits, reads-digit}
 use Rattle.pddl_terms.proofs.numbers.number.Goals as goal
 
 pub overflow_mul-number : goal.overflow_mul-number

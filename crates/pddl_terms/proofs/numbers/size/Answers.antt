@@ -1,4 +1,4 @@
-use Rattle.std.proofs.Common.{◌∙◌, sym, arith, subst, ap, ◌<◌, ◌≤◌, ◌^◌}
+use Rattle.std.proofs.Common.{◌∙◌, sym, arith, subst, ap, ◌<◌}
 use Rattle.std.proofs.Math.Facts.{Fits-of_lt}
 use Rattle.basics.specs.Texts.{digit_count}
 use Rattle.pddl_terms.proofs.Digits.{count-behind_point, power-fits, power-some}

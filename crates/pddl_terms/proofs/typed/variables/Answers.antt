@@ -1,4 +1,4 @@
-use Rattle.std.proofs.Common.{◌∙◌, ap, sym}
+use Rattle.std.proofs.Common.{◌∙◌, sym}
 use Rattle.pddl_terms.proofs.Building.{answered, variables-end, variables-word, variables-list}
 use Rattle.pddl_terms.proofs.typed.variables.Goals as goal
 
