@@ -1,0 +1,30 @@
+use Rattle.std.proofs.Common.{◌∙◌, ap, ◌++◌, ◌∷◌, [], arith}
+use Rattle.pddl_terms.specs.Constraints.{cons}
+use Rattle.pddl_terms.proofs.Contents.{pushed, skipped, ended}
+use Rattle.pddl_terms.proofs.Building.{answered, con_tree-none, con_tree-empty, con_tree-by, cons-end, cons-word, cons-list}
+use Rattle.pddl_terms.proofs.constraints.+constraints.Goals as goal
+
+pub con_tree-returns-in-NoList : goal.con_tree-returns-in-NoList
+con_tree-returns-in-NoList t c = con_tree-none _ c.in-NoList.ensures
+
+pub con_tree-returns-in-NoWord : goal.con_tree-returns-in-NoWord
+con_tree-returns-in-NoWord t c = con_tree-empty _ _ _ _ c.in-NoWord.ensures.list c.in-NoWord.ensures.no_word
+
+pub con_tree-returns-in-Word : goal.con_tree-returns-in-Word
+con_tree-returns-in-Word t c = answered _ (con_tree-by _ _ _ _ _ _ c.con_head-head.ensures c.word_bytes.ensures c.in-Word.ensures.list) c.con_by.ensures
+
+pub cons-returns-in-End : goal.cons-returns-in-End
+cons-returns-in-End t c = ended cons _ _ _ c.loop-out.invariant.whole (cons-end _ _ c.in-End.ensures)
+
+pub cons-loop-out-preserved-in-Word : goal.cons-loop-out-preserved-in-Word
+cons-loop-out-preserved-in-Word t c = record {
+  above = omega arith;
+  whole = skipped cons _ _ _ _ c.loop-out.invariant.whole (cons-word _ _ _ c.in-Word.ensures.here);
+}
+
+pub cons-loop-out-preserved : goal.cons-loop-out-preserved
+cons-loop-out-preserved t c = record {
+  above = omega (arith, c.in-List.ensures.later);
+  whole = pushed cons _ _ _ _ _ _ c.loop-out.invariant.whole (cons-list _ _ _ _ c.in-List.ensures.here)
+      (c.in_ok-push-in-List.ensures.ok ∙ ap (λ x. c.loop-out.out ++ x ∷ []) c.in_ok-con_tree-in-List.ensures);
+}

@@ -1,0 +1,14 @@
+pub mod Content
+pub mod Words
+pub mod Grammar
+pub mod Typed
+pub mod Numbers
+pub mod Expressions
+pub mod Conditions
+pub mod Formulas
+pub mod Constraints
+pub mod Lines
+pub mod Shape
+pub mod Order
+pub mod Items
+pub mod Readings

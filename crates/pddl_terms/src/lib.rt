@@ -1,0 +1,34 @@
+//! Parts of PDDL texts, read from the tokens of a text: typed lists, conditions, expressions, formulas over facts and
+//! constraints.
+//!
+//! Each call answers the tree that the grammar derives there, or the first place at which no accepted text can go on.
+#![tactic(auto)]
+
+mod conditions;
+mod constraints;
+mod expressions;
+mod faults;
+mod formulas;
+mod grammar;
+mod heads;
+mod items;
+mod laws;
+mod lines;
+mod numbers;
+mod readers;
+mod shape;
+mod trees;
+mod typed;
+mod words;
+
+pub use faults::{Kind, PddlFault};
+pub use grammar::{Line, Listed, Rest};
+pub use laws::first_is_least;
+pub use readers::{read_condition, read_constraint, read_expression, read_tree, read_typed};
+pub use trees::{
+    Atom, Comparison, ConForm, CondTree, ExprTree, FactForm, Group, Name, Side, Term, Trajectory,
+    TypeName,
+};
+
+#[cfg(test)]
+mod tests;

@@ -1,0 +1,127 @@
+//! The trees of parts of a text. A variant begins with the byte at which it begins, and holds its parts in the order
+//! of the text.
+
+use exact_lin::Fraction;
+use sqlite_items::{Boxed, Items};
+
+/// A name in lower case, and the byte at which it begins. A variable keeps its question mark.
+#[derive(Drop)]
+pub struct Name {
+    pub at: u32,
+    pub bytes: Items<u8>,
+}
+
+/// An object or constant by its name, or a variable.
+#[derive(Drop)]
+pub enum Term {
+    Object(Name),
+    Variable(Name),
+}
+
+/// A name with terms: an atom of a predicate, or a fluent of a function.
+#[derive(Drop)]
+pub struct Atom {
+    pub at: u32,
+    pub name: Name,
+    pub terms: Items<Term>,
+}
+
+/// The type of some names: `object` where none is written, or the name behind `-`, or a list that is left out.
+#[derive(Drop)]
+pub enum TypeName {
+    Object,
+    Named(Name),
+    LeftOut(u32),
+}
+
+/// Names of one type.
+#[derive(Drop)]
+pub struct Group {
+    pub names: Items<Name>,
+    pub of: TypeName,
+}
+
+/// The mark of a comparison, or of a bound of a duration.
+#[derive(Clone, Copy, Debug, PartialEq, Eq)]
+pub enum Comparison {
+    Equal,
+    AtMost,
+    AtLeast,
+    Below,
+    Above,
+}
+
+/// An expression. `Duration` stands in effects alone; the total time, a violated preference and a time cost in metrics.
+#[derive(Drop)]
+pub enum ExprTree {
+    Number(u32, Fraction),
+    Fluent(Atom),
+    Duration(u32),
+    Sum(u32, Items<ExprTree>),
+    Product(u32, Items<ExprTree>),
+    Negative(u32, Boxed<ExprTree>),
+    Difference(u32, Boxed<ExprTree>, Boxed<ExprTree>),
+    Quotient(u32, Boxed<ExprTree>, Boxed<ExprTree>),
+    LeftOut(u32),
+    TotalTime(u32),
+    Violated(u32, Name),
+    TimeCost(u32, Name),
+}
+
+/// A side of an `=`: a variable, a bare name (an object, or a fluent without terms), or another expression.
+#[derive(Drop)]
+pub enum Side {
+    Variable(Name),
+    Bare(Name),
+    Expression(ExprTree),
+}
+
+/// A condition; `( )` is `Empty`. `Equal` is an equality of terms or a comparison, by its sides.
+#[derive(Drop)]
+pub enum CondTree {
+    Empty(u32),
+    And(u32, Items<CondTree>),
+    Forall(u32, Items<Group>, Boxed<CondTree>),
+    Atom(Atom),
+    Not(u32, Boxed<CondTree>),
+    Equal(u32, Side, Side),
+    Compare(u32, Comparison, ExprTree, ExprTree),
+    LeftOut(u32),
+}
+
+/// A formula over facts; `( )` is `Empty`.
+#[derive(Drop)]
+pub enum FactForm {
+    Empty(u32),
+    Atom(Atom),
+    Equal(u32, Side, Side),
+    And(u32, Items<FactForm>),
+    Or(u32, Items<FactForm>),
+    Not(u32, Boxed<FactForm>),
+    Imply(u32, Boxed<FactForm>, Boxed<FactForm>),
+    Exists(u32, Items<Group>, Boxed<FactForm>),
+    Forall(u32, Items<Group>, Boxed<FactForm>),
+    LeftOut(u32),
+}
+
+/// A trajectory constraint of PDDL3.
+#[derive(Drop)]
+pub enum Trajectory {
+    Always(u32, FactForm),
+    Sometime(u32, FactForm),
+    Within(u32, Fraction, FactForm),
+    AtMostOnce(u32, FactForm),
+    SometimeAfter(u32, FactForm, FactForm),
+    SometimeBefore(u32, FactForm, FactForm),
+    AtEnd(u32, FactForm),
+    LeftOut(u32),
+}
+
+/// Constraints: hard ones, and preferences with or without a name.
+#[derive(Drop)]
+pub enum ConForm {
+    And(u32, Items<ConForm>),
+    Forall(u32, Items<Group>, Boxed<ConForm>),
+    Hard(Trajectory),
+    Preference(u32, Option<Name>, Trajectory),
+}
