@@ -75,7 +75,7 @@ module _ (l : Lexed) (ts : List Token) (e : ts ≡ l.tokens) (i : ℕ) (d : Toke
 
 -- where a list stands, a parenthesis opens it, and what it holds begins at the next token
 pub at-open : (l : Lexed) (i : ℕ) (d : Token) → i < length l.tokens → (v : ℕ) (inner more : Content) → content_at l i ≡ Inner v inner more
-    → ((slice_index_or l.tokens i d).kind ≡ Open) × (content_at l (i + 1) ≡ inner)
+    → ((slice_index_or l.tokens i d).kind ≡ Open) × (content_at l (i + 1) ≡ inner) × ((slice_index_or l.tokens i d).at ≡ v)
 unfolding content_at
 at-open l i d h v inner more e = by_kind (slice_index_or l.tokens i d).kind refl (sym (ap top (levels-at l.text l.tokens i d h)) ∙ e)
   where
@@ -85,8 +85,8 @@ at-open l i d h v inner more e = by_kind (slice_index_or l.tokens i d).kind refl
     outer : List Content
     outer = levels l.text (drop (i + 1) l.tokens)
 
-    by_kind : (k : TokenKind) → t.kind ≡ k → top (level l.text k t outer) ≡ Inner v inner more → (t.kind ≡ Open) × (top outer ≡ inner)
-    by_kind Open k f = (k, cc)
+    by_kind : (k : TokenKind) → t.kind ≡ k → top (level l.text k t outer) ≡ Inner v inner more → (t.kind ≡ Open) × (top outer ≡ inner) × (t.at ≡ v)
+    by_kind Open k f = (k, cc, cc)
     by_kind Close k f = absurd cc
     by_kind other k f = absurd cc
 

@@ -30,7 +30,7 @@ unfolding AreFrom
 from-end low close true h = tt
 from-end low close false h = (h, omega arith, tt)
 
-ascends-close : (low : ℕ) (x : Content) → Ascends low x → low ≤ close_of x
+pub ascends-close : (low : ℕ) (x : Content) → Ascends low x → low ≤ close_of x
 ascends-close low (End close) a = a
 ascends-close low (Word w more) a = let later = ascends-close (suc w.at) more a.1 in omega (arith, a.0)
 ascends-close low (Inner at inner more) a =
@@ -64,3 +64,10 @@ unfolding AreFrom
 first_is_least low x r place a first =
     let all : AreFrom low (close_of x) (place ∷ first.0) = subst (AreFrom low (close_of x)) first.1 (wrong-from r low x a) in
     subst (IsLeast place) (sym first.1) (omega arith, from-least place place (close_of x) first.0 (omega arith) all.2)
+
+-- and it lies in the list
+pub first-within : (low : ℕ) (x : Content) (r : Rest) (place : ℕ) → Ascends low x → IsFirst place (wrong r x) → (low ≤ place) × (place ≤ close_of x)
+unfolding AreFrom
+first-within low x r place a first =
+    let all : AreFrom low (close_of x) (place ∷ first.0) = subst (AreFrom low (close_of x)) first.1 (wrong-from r low x a) in
+    (all.0, all.1)

@@ -3,6 +3,9 @@ pub mod Contents
 pub mod Shapes
 pub mod Building
 pub mod Digits
+pub mod Completions
+pub mod GoingOn
+pub mod Stopping
 pub mod Least
 pub mod Ascending
 pub mod Reading

@@ -12,3 +12,4 @@ pub mod Shape
 pub mod Order
 pub mod Items
 pub mod Readings
+pub mod Beginnings

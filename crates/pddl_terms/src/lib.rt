@@ -23,7 +23,7 @@ mod words;
 
 pub use faults::{Kind, PddlFault};
 pub use grammar::{Line, Listed, Rest};
-pub use laws::first_is_least;
+pub use laws::{first_is_least, no_text_goes_further, some_text_goes_so_far};
 pub use readers::{read_condition, read_constraint, read_expression, read_tree, read_typed};
 pub use trees::{
     Atom, Comparison, ConForm, CondTree, ExprTree, FactForm, Group, Name, Side, Term, Trajectory,

@@ -1,0 +1,327 @@
+-- Up to its first wrong place a list goes on as one that is right.
+use Rattle.std.proofs.Common.{◌≡◌, ◌⊎◌, ℕ, Bool, true, false, List, [], ◌∷◌, ◌++◌, Option, Some, None, refl, sym, ap, ◌∙◌, subst, inl, inr, if◌then◌else◌}
+use lib.Chars.{codes}
+use Rattle.sexpr_text.specs.declared.token.TokenKind.{TokenKind}
+use Rattle.pddl_terms.specs.declared.grammar.Line.{Line}
+use Rattle.pddl_terms.specs.declared.grammar.Line.TheVariants as line
+use Rattle.pddl_terms.specs.declared.grammar.Listed.{Listed}
+use Rattle.pddl_terms.specs.declared.grammar.Rest.{Rest}
+use Rattle.pddl_terms.specs.declared.grammar.Rest.TheVariants as rest
+use Rattle.pddl_terms.specs.declared.heads.ExprHead.{ExprHead}
+use Rattle.pddl_terms.specs.declared.heads.ExprHead.TheVariants as expr
+use Rattle.pddl_terms.specs.declared.heads.CondHead.{CondHead}
+use Rattle.pddl_terms.specs.declared.heads.CondHead.TheVariants as cond
+use Rattle.pddl_terms.specs.declared.heads.TreeHead.{TreeHead}
+use Rattle.pddl_terms.specs.declared.heads.TreeHead.TheVariants as tree
+use Rattle.pddl_terms.specs.declared.heads.TrailHead.{TrailHead}
+use Rattle.pddl_terms.specs.declared.heads.TrailHead.TheVariants as trail
+use Rattle.pddl_terms.specs.declared.heads.ConHead.{ConHead}
+use Rattle.pddl_terms.specs.declared.heads.ConHead.TheVariants as con
+use Rattle.pddl_terms.specs.Content.{Content, Lexeme, End, Word, Inner}
+use Rattle.pddl_terms.specs.Words.{same_word, is_name, is_variable, is_number, is_term_or_end, is_left_out}
+use Rattle.pddl_terms.specs.Grammar.{wanted, after, only_if}
+use Rattle.pddl_terms.specs.Typed.{is_listed}
+use Rattle.pddl_terms.specs.Expressions.{expr_head, expr_rest, first_side}
+use Rattle.pddl_terms.specs.Conditions.{cond_head, cond_rest, denied_rest, cmp_rest}
+use Rattle.pddl_terms.specs.Formulas.{tree_head, tree_rest}
+use Rattle.pddl_terms.specs.Constraints.{con_head, con_rest, trail_rest, behind_trail}
+use Rattle.pddl_terms.specs.Lines.{begins, inside, stands}
+use Rattle.pddl_terms.specs.Shape.{may_end, takes, takes_line, enters, enters_line, leaves, kind_ahead, word_ahead, or_here, wrong, wrong_item, IsFirst}
+use Rattle.pddl_terms.specs.Beginnings.{SameBefore, may_go_on}
+use Rattle.pddl_terms.proofs.Completions.{complete, complete-right, item, item-right}
+
+-- what may follow, if something may, may go on
+goes : Option Rest → Bool
+goes None = true
+goes (Some r) = may_go_on r
+
+goes-some : (o : Option Rest) (r : Rest) → goes o ≡ true → o ≡ Some r → may_go_on r ≡ true
+unfolding goes
+goes-some o r h e = subst (λ (p : Option Rest). goes p ≡ true) e h
+
+goes-only_if : (b : Bool) (r : Rest) → may_go_on r ≡ true → goes (only_if b r) ≡ true
+unfolding goes
+goes-only_if true r h = h
+goes-only_if false r h = refl
+
+module _ (kind : TokenKind) where
+  goes-expr : (l : Line) (h : ExprHead) → goes (expr_rest l h kind) ≡ true
+  unfolding goes
+  goes-expr l expr.LeftOut = refl
+  goes-expr l expr.Sum = refl
+  goes-expr l expr.Product = refl
+  goes-expr l expr.Minus = refl
+  goes-expr l expr.Quotient = refl
+  goes-expr l expr.Named = goes-only_if (is_name kind) (rest.Many line.Term) refl
+
+  goes-cond : (h : CondHead) → goes (cond_rest h kind) ≡ true
+  unfolding goes
+  goes-cond cond.LeftOut = refl
+  goes-cond cond.And = refl
+  goes-cond cond.Forall = refl
+  goes-cond cond.Not = refl
+  goes-cond cond.Equal = refl
+  goes-cond (cond.Compare c) = refl
+  goes-cond cond.Named = goes-only_if (is_name kind) (rest.Many line.Term) refl
+
+  goes-denied : (h : CondHead) → goes (denied_rest h kind) ≡ true
+  unfolding goes
+  goes-denied cond.LeftOut = refl
+  goes-denied cond.And = goes-only_if (is_name kind) (rest.Many line.Term) refl
+  goes-denied cond.Forall = goes-only_if (is_name kind) (rest.Many line.Term) refl
+  goes-denied cond.Not = refl
+  goes-denied cond.Equal = refl
+  goes-denied (cond.Compare c) = refl
+  goes-denied cond.Named = goes-only_if (is_name kind) (rest.Many line.Term) refl
+
+  goes-cmp : (h : CondHead) → goes (cmp_rest h) ≡ true
+  unfolding goes
+  goes-cmp cond.LeftOut = refl
+  goes-cmp cond.And = refl
+  goes-cmp cond.Forall = refl
+  goes-cmp cond.Not = refl
+  goes-cmp cond.Equal = refl
+  goes-cmp (cond.Compare c) = refl
+  goes-cmp cond.Named = refl
+
+  goes-tree : (h : TreeHead) → goes (tree_rest h kind) ≡ true
+  unfolding goes
+  goes-tree tree.LeftOut = refl
+  goes-tree tree.Named = goes-only_if (is_name kind) (rest.Many line.Term) refl
+  goes-tree tree.Equal = refl
+  goes-tree tree.And = refl
+  goes-tree tree.Or = refl
+  goes-tree tree.Not = refl
+  goes-tree tree.Imply = refl
+  goes-tree tree.Exists = refl
+  goes-tree tree.Forall = refl
+
+goes-trail : (h : TrailHead) → may_go_on (behind_trail h) ≡ true
+goes-trail trail.Always = refl
+goes-trail trail.Sometime = refl
+goes-trail trail.Within = refl
+goes-trail trail.AtMostOnce = refl
+goes-trail trail.SometimeAfter = refl
+goes-trail trail.SometimeBefore = refl
+goes-trail trail.AtEnd = refl
+
+goes-con : (h : ConHead) → goes (con_rest h) ≡ true
+unfolding goes
+goes-con con.LeftOut = refl
+goes-con con.And = refl
+goes-con con.Forall = refl
+goes-con con.Preference = refl
+goes-con (con.Trail h) = goes-trail h
+goes-con con.Unknown = refl
+
+goes-trails : (h : ConHead) → goes (trail_rest h) ≡ true
+unfolding goes
+goes-trails con.LeftOut = refl
+goes-trails con.And = refl
+goes-trails con.Forall = refl
+goes-trails con.Preference = refl
+goes-trails (con.Trail h) = goes-trail h
+goes-trails con.Unknown = refl
+
+goes-begins : (l : Line) (word : List ℕ) (kind : TokenKind) → goes (begins l word kind) ≡ true
+unfolding goes
+goes-begins line.Expr word kind = goes-expr kind line.Expr (expr_head word)
+goes-begins line.EffectExpr word kind = goes-expr kind line.EffectExpr (expr_head word)
+goes-begins line.Cond word kind = goes-cond kind (cond_head word)
+goes-begins line.Denied word kind = goes-denied kind (cond_head word)
+goes-begins line.Cmp word kind = goes-cmp kind (cond_head word)
+goes-begins line.Tree word kind = goes-tree kind (tree_head word)
+goes-begins line.Con word kind = goes-con (con_head word)
+goes-begins line.Trail word kind = goes-trails (con_head word)
+goes-begins line.Term word kind = refl
+goes-begins line.Number word kind = refl
+goes-begins line.VariableList word kind = refl
+
+goes-after : (r : Rest) → may_go_on (after r) ≡ true
+goes-after (rest.Two l m) = refl
+goes-after (rest.Many l) = refl
+goes-after (rest.OneAndSome l) = refl
+goes-after (rest.Some l) = refl
+goes-after (rest.OneAndMaybe l) = refl
+goes-after r = refl
+
+goes-line : (o : Option Line) (word : List ℕ) (kind : TokenKind) (r : Rest) → may_go_on r ≡ true → goes (takes_line o word kind r) ≡ true
+unfolding goes
+goes-line None word kind r h = refl
+goes-line (Some l) word kind r h = goes-only_if (stands l word kind) r h
+
+goes-if : (b : Bool) (o p : Option Rest) → goes o ≡ true → goes p ≡ true → goes (if b then o else p) ≡ true
+goes-if true o p f g = f
+goes-if false o p f g = g
+
+goes-takes : (r : Rest) (word : List ℕ) (kind ahead : TokenKind) → goes (takes r word kind ahead) ≡ true
+unfolding takes goes
+goes-takes (rest.Whole l) word kind ahead = goes-begins l word kind
+goes-takes rest.Skipped word kind ahead = refl
+goes-takes (rest.Typed of) word kind ahead = goes-only_if (is_listed of kind) (rest.TypedMore of) refl
+goes-takes (rest.TypedMore of) word kind ahead = goes-if (is_listed of kind) _ _ (goes-only_if (is_listed of kind) (rest.TypedMore of) refl)
+    (goes-only_if (same_word word (codes "-")) (rest.TypeName of) refl)
+goes-takes (rest.TypeName of) word kind ahead = goes-only_if (is_name kind) (rest.Typed of) refl
+goes-takes rest.Sides word kind ahead = goes-if (is_variable kind) _ _ (goes-only_if (is_term_or_end ahead) (rest.Side true) refl)
+    (goes-if (is_name kind) _ _ refl (goes-only_if (is_number kind) (rest.Side false) refl))
+goes-takes (rest.Side plain) word kind ahead = goes-if (is_variable kind) _ _ (goes-only_if plain rest.Nothing refl) (goes-only_if _ rest.Nothing refl)
+goes-takes (rest.OptionalName l) word kind ahead = goes-only_if (is_name kind) (rest.One l) refl
+goes-takes (rest.EndAnd l) word kind ahead = goes-only_if (same_word word (codes "end")) (rest.One l) refl
+goes-takes r word kind ahead = goes-line (wanted r) word kind (after r) (goes-after r)
+
+goes-inside : (l : Line) → goes (inside l) ≡ true
+unfolding goes
+goes-inside line.Term = refl
+goes-inside line.Number = refl
+goes-inside line.VariableList = refl
+goes-inside l = refl
+
+goes-enters_line : (o : Option Line) → goes (enters_line o) ≡ true
+unfolding goes
+goes-enters_line None = refl
+goes-enters_line (Some l) = goes-inside l
+
+goes-enters : (r : Rest) (first : List ℕ) → goes (enters r first) ≡ true
+unfolding enters goes
+goes-enters rest.Skipped first = refl
+goes-enters (rest.TypeName of) first = goes-only_if (is_left_out first) rest.Skipped refl
+goes-enters rest.Sides first = refl
+goes-enters (rest.Side plain) first = refl
+goes-enters r first = goes-enters_line (wanted r)
+
+goes-leaves : (r : Rest) → may_go_on (leaves r) ≡ true
+unfolding leaves
+goes-leaves rest.Skipped = refl
+goes-leaves (rest.TypeName of) = refl
+goes-leaves rest.Sides = refl
+goes-leaves (rest.Side plain) = refl
+goes-leaves r = goes-after r
+
+-- A word before what ends the rest well: the token ahead changes nothing.
+side-ahead : (kind ahead : TokenKind) (s : Rest) → first_side kind ahead ≡ Some s → first_side kind (kind_ahead (complete s)) ≡ Some s
+side-ahead kind ahead s e = by_tests (is_variable kind) (is_term_or_end ahead) (is_name kind) (is_number kind) s e
+  where
+    by_tests : (v a n m : Bool) (s : Rest)
+        → (if v then only_if a (rest.Side true) else (if n then Some (rest.Side true) else only_if m (rest.Side false))) ≡ Some s
+        → (if v then only_if (is_term_or_end (kind_ahead (complete s))) (rest.Side true) else (if n then Some (rest.Side true) else only_if m (rest.Side false))) ≡ Some s
+    by_tests true true n m s e = let same : rest.Side true ≡ s = cc in subst (λ (t : Rest). only_if (is_term_or_end (kind_ahead (complete t))) (rest.Side true) ≡ Some t) same refl
+    by_tests true false n m s e = absurd cc
+    by_tests false a n m s e = e
+
+takes-ahead : (r : Rest) (word : List ℕ) (kind ahead : TokenKind) (s : Rest) → takes r word kind ahead ≡ Some s → takes r word kind (kind_ahead (complete s)) ≡ Some s
+unfolding takes
+takes-ahead rest.Sides word kind ahead s e = side-ahead kind ahead s e
+takes-ahead (rest.Whole l) word kind ahead s e = e
+takes-ahead rest.Skipped word kind ahead s e = e
+takes-ahead (rest.Typed of) word kind ahead s e = e
+takes-ahead (rest.TypedMore of) word kind ahead s e = e
+takes-ahead (rest.TypeName of) word kind ahead s e = e
+takes-ahead (rest.Side plain) word kind ahead s e = e
+takes-ahead (rest.OptionalName l) word kind ahead s e = e
+takes-ahead (rest.EndAnd l) word kind ahead s e = e
+takes-ahead r word kind ahead s e = e
+
+enters-ahead : (r : Rest) (first : List ℕ) (s : Rest) → enters r first ≡ Some s → enters r (word_ahead (complete s)) ≡ Some s
+unfolding enters is_left_out
+enters-ahead (rest.TypeName of) first s e = by_test (is_left_out first) e
+  where
+    by_test : (b : Bool) → only_if b rest.Skipped ≡ Some s → only_if (is_left_out (word_ahead (complete s))) rest.Skipped ≡ Some s
+    by_test true f = let same : rest.Skipped ≡ s = cc in subst (λ (t : Rest). only_if (is_left_out (word_ahead (complete t))) rest.Skipped ≡ Some t) same refl
+    by_test false f = absurd cc
+enters-ahead rest.Skipped first s e = e
+enters-ahead rest.Sides first s e = e
+enters-ahead (rest.Side plain) first s e = e
+enters-ahead r first s e = e
+
+-- Another content of the list, which is right and has the same tokens before the place. Where the place isn't that of
+-- its first token, it begins alike; else it is what ends the rest well.
+pub record GoesOn (r : Rest) (x : Content) (place : ℕ) : Type 0 where
+  pub other : Content
+  pub same : SameBefore place x other
+  pub right : wrong r other ≡ []
+  pub ahead : ((kind_ahead other ≡ kind_ahead x) × (word_ahead other ≡ word_ahead x)) ⊎ (other ≡ complete r)
+
+pub split-first : (xs ys : List ℕ) (place : ℕ) → IsFirst place (xs ++ ys) → IsFirst place xs ⊎ ((xs ≡ []) × IsFirst place ys)
+split-first [] ys place f = inr (refl, f)
+split-first (x ∷ xs) ys place f = let same : x ≡ place = cc (f.1) in inl (xs, ap (λ p. p ∷ xs) same)
+
+module _ (r : Rest) (h : may_go_on r ≡ true) (place : ℕ) where
+  stops : (x : Content) → SameBefore place x (complete r) → GoesOn r x place
+  stops x s = record { other = complete r; same = s; right = complete-right r h; ahead = inr refl }
+
+  at_end : (close : ℕ) (b : Bool) → IsFirst place (if b then [] else close ∷ []) → close ≡ place
+  at_end close true f = absurd (cc (f.1))
+  at_end close false f = cc (f.1)
+
+pub goes_on : (x : Content) (r : Rest) (place : ℕ) → may_go_on r ≡ true → IsFirst place (wrong r x) → GoesOn r x place
+unfolding wrong
+goes_on (End close) r place h f = stops r h place (End close) (at_end r h place close (may_end r) f)
+goes_on (Word w more) r place h f = by_takes (takes r w.bytes w.kind (kind_ahead more)) refl f (λ s g k. goes_on more s place g k)
+  where
+    by_takes : (o : Option Rest) → takes r w.bytes w.kind (kind_ahead more) ≡ o → IsFirst place (or_here w.at o (λ s. wrong s more))
+        → ((s : Rest) → may_go_on s ≡ true → IsFirst place (wrong s more) → GoesOn s more place) → GoesOn r (Word w more) place
+    by_takes None e g ih = stops r h place (Word w more) (inl (cc (g.1)))
+    by_takes (Some s) e g ih =
+        let open_s : may_go_on s ≡ true = goes-some _ s (goes-takes r w.bytes w.kind (kind_ahead more)) e in
+        let on : GoesOn s more place = ih s open_s g in
+        let takes_other : takes r w.bytes w.kind (kind_ahead on.other) ≡ Some s = elim on.ahead [
+          | inl alike ↦ ap (takes r w.bytes w.kind) alike.0 ∙ e
+          | inr ends ↦ ap (λ y. takes r w.bytes w.kind (kind_ahead y)) ends ∙ takes-ahead r w.bytes w.kind (kind_ahead more) s e
+        ] in
+        record {
+          other = Word w on.other;
+          same = inr (on.other, refl, on.same);
+          right = ap (λ o. or_here w.at o (λ s. wrong s on.other)) takes_other ∙ on.right;
+          ahead = inl (refl, refl);
+        }
+goes_on (Inner at inner more) r place h f = by_enters (enters r (word_ahead inner)) refl f (λ s g k. goes_on inner s place g k) (λ g k. goes_on more (leaves r) place g k)
+  where
+    by_enters : (o : Option Rest) → enters r (word_ahead inner) ≡ o → IsFirst place (or_here at o (λ s. wrong s inner ++ wrong (leaves r) more))
+        → ((s : Rest) → may_go_on s ≡ true → IsFirst place (wrong s inner) → GoesOn s inner place)
+        → (may_go_on (leaves r) ≡ true → IsFirst place (wrong (leaves r) more) → GoesOn (leaves r) more place)
+        → GoesOn r (Inner at inner more) place
+    by_enters None e g held next = stops r h place (Inner at inner more) (inl (cc (g.1)))
+    by_enters (Some s) e g held next = elim (split-first (wrong s inner) (wrong (leaves r) more) place g) [
+      | inl within ↦
+          let open_s : may_go_on s ≡ true = goes-some _ s (goes-enters r (word_ahead inner)) e in
+          let on : GoesOn s inner place = held s open_s within in
+          let enters_other : enters r (word_ahead on.other) ≡ Some s = elim on.ahead [
+            | inl alike ↦ ap (enters r) alike.1 ∙ e
+            | inr ends ↦ ap (λ y. enters r (word_ahead y)) ends ∙ enters-ahead r (word_ahead inner) s e
+          ] in
+          record {
+            other = Inner at on.other (complete (leaves r));
+            same = inr (on.other, complete (leaves r), refl, inl on.same);
+            right = ap (λ o. or_here at o (λ s. wrong s on.other ++ wrong (leaves r) (complete (leaves r)))) enters_other
+                ∙ ap (λ l. l ++ wrong (leaves r) (complete (leaves r))) on.right ∙ complete-right (leaves r) (goes-leaves r);
+            ahead = inl (refl, refl);
+          }
+      | inr behind ↦
+          let on : GoesOn (leaves r) more place = next (goes-leaves r) behind.1 in
+          record {
+            other = Inner at inner on.other;
+            same = inr (inner, on.other, refl, inr (refl, on.same));
+            right = ap (λ o. or_here at o (λ s. wrong s inner ++ wrong (leaves r) on.other)) e ∙ ap (λ l. l ++ wrong (leaves r) on.other) behind.0 ∙ on.right;
+            ahead = inl (refl, refl);
+          }
+    ]
+
+-- the same of what stands next
+pub item_goes_on : (l : Line) (x : Content) (place : ℕ) → IsFirst place (wrong_item l x) → (y : Content) × SameBefore place x y × (wrong_item l y ≡ [])
+unfolding wrong_item
+item_goes_on l (End close) place f = (item l (End 0), cc (f.1), item-right l (End 0))
+item_goes_on l (Word w more) place f = (item l (End 0), inl (by_test (stands l w.bytes w.kind) f), item-right l (End 0))
+  where
+    by_test : (b : Bool) → IsFirst place (if b then [] else w.at ∷ []) → w.at ≡ place
+    by_test true g = absurd (cc (g.1))
+    by_test false g = cc (g.1)
+item_goes_on l (Inner at inner more) place f = by_inside (inside l) refl f
+  where
+    by_inside : (o : Option Rest) → inside l ≡ o → IsFirst place (or_here at o (λ s. wrong s inner)) → (y : Content) × SameBefore place (Inner at inner more) y × (wrong_item l y ≡ [])
+    by_inside None e g = (item l (End 0), inl (cc (g.1)), item-right l (End 0))
+    by_inside (Some s) e g =
+        let on : GoesOn s inner place = goes_on inner s place (goes-some (inside l) s (goes-inside l) e) g in (
+          Inner at on.other more,
+          inr (on.other, more, refl, inl on.same),
+          ap (λ o. or_here at o (λ s. wrong s on.other)) e ∙ on.right,
+        )
