@@ -22,6 +22,7 @@ pub use forms::Form;
 pub use fractions::{Fraction, Narrow};
 pub use id_vec::IdVec;
 pub use ids::{ActionId, FactId, FluentId, Id, RowId, SnapId, StepId, TermId, TokenId, VarId};
+pub use reckoning::WIDE_LIMIT;
 pub use scalars::{Scalar, Sign, Wide};
 
 #[cfg(test)]

@@ -15,9 +15,7 @@ use Rattle.lp_tableau.specs.Dictionaries.{Dictionary, IsEven, row_in, row_of, en
 use Rattle.lp_tableau.specs.RowLists.{RowFits, RowsFit, shown_rows}
 use Rattle.lp_tableau.specs.Pivots.{cleared, replaced, solved, pivoted, CanReplace, CanSolve, CanPivot}
 use Rattle.lp_tableau.proofs.RowPlaces.{at-replaced, length-replaced, length-solved}
-
-pub same_or_not : (i k : ℕ) → (i ≡ k) ⊎ ¬ (i ≡ k)
-same_or_not i k = grind arith
+use Rattle.lp_tableau.proofs.Solving.{same_or_not}
 
 -- ---- one more number, one more row
 one_more : {X : Type 0} (P : X → Type 0) (d : X) (xs : List X) (x : X) → ((k : ℕ) → k < length xs → P (get_or xs k d)) → P x → (k : ℕ) → k < length (xs ++ x ∷ []) → P (get_or (xs ++ x ∷ []) k d)

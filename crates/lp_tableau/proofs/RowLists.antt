@@ -12,7 +12,7 @@ use Rattle.lp_tableau.specs.Dictionaries.{row_in}
 use Rattle.lp_tableau.specs.RowLists.{shown_rows, HaveWidth, AreReady}
 use Rattle.lp_tableau.specs.Pivots.{replaced, replaced_rows, CanReplace, CanReplaceOthers}
 use Rattle.lp_tableau.proofs.Writing.{last_or_before}
-use Rattle.lp_tableau.proofs.FittingRows.{same_or_not}
+use Rattle.lp_tableau.proofs.Solving.{same_or_not}
 
 -- the rows after the pivot, place by place
 next_row-at : (rows : List (List ℚ)) (s : List ℚ) (i j k : ℕ) (b : Bool) → IsTrue b ↔ (k ≡ i) → k < length rows → get_or (set (map (replaced s j) rows) i s) k [] ≡ (if b then s else replaced s j (row_in rows k))

@@ -9,7 +9,7 @@ use Rattle.sexpr_text.specs.Forms.{MatesAreBehind, MatesLeadBack}
 use Rattle.sexpr_text.specs.Lists.{opened, closed, Matches, IsBalanced}
 use Rattle.sexpr_text.proofs.Heights.{step_open, step_close, step_level, NoParentheses, nothing_no_parentheses, run_no_parentheses}
 use Rattle.sexpr_text.proofs.Spans.{spans_within, span_some, span_open}
-use Rattle.sexpr_text.proofs.Joining.{get_from_read}
+use Rattle.sexpr_text.proofs.Joining.{get_from_read, still_far}
 use Rattle.pddl_terms.specs.Content.{Content, level, levels}
 
 drop-nil : (n : ℕ) → ◌≡◌ {A = List Content} (drop n []) []
@@ -26,19 +26,10 @@ drop-two n (x ∷ []) = drop-nil n
 drop-two n (x ∷ y ∷ xs) = refl
 
 -- where no parenthesis stands, the counts stay
-far : (text : List ℕ) (from n : ℕ) → NoParentheses text from (from + n) → (opened text (from + n) ≡ opened text from) × (closed text (from + n) ≡ closed text from)
-far text from zero none = let e : from + 0 ≡ from = omega arith in (ap (opened text) e, ap (closed text) e)
-far text from (suc n) none =
-    let e : from + suc n ≡ suc (from + n) = omega arith in
-    let here = none (from + n) (omega arith) (omega arith) in
-    let step = step_level text (from + n) here.0 here.1 in
-    let before = far text from n (λ k low high. none k low (omega arith)) in
-    (ap (opened text) e ∙ step.0 ∙ before.0, ap (closed text) e ∙ step.1 ∙ before.1)
-
 pub over : (text : List ℕ) (from to : ℕ) → from ≤ to → NoParentheses text from to → (opened text to ≡ opened text from) × (closed text to ≡ closed text from)
 over text from to le none =
     let e : from + (to - from) ≡ to = omega arith in
-    let all = far text from (to - from) (λ k low high. none k low (omega arith)) in
+    let all = still_far text from (to - from) (λ k low high. none k low (omega arith)) in
     (ap (opened text) (sym e) ∙ all.0, ap (closed text) (sym e) ∙ all.1)
 
 -- from the place up to n as many more lists close as h says, and never more open than close from a place on

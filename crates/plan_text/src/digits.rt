@@ -23,8 +23,7 @@ ghost use Rattle.exact_lin.specs.Reckoning.{wide_limit};
 ghost use Rattle.basics.specs.Texts.{is_digits, number, number_after};
 ghost use Rattle.plan_text.specs.Quotients.{bytes_of, AreDigits, leading};
 
-/// The largest part of a fraction.
-pub const LIMIT: u128 = 170141183460469231731687303715884105727;
+use exact_lin::WIDE_LIMIT;
 
 /// The digits of two texts, one behind the other.
 #[derive(Clone, Copy)]
@@ -131,11 +130,11 @@ pub fn small_after(start: u128, text: &[u8]) -> Option<u128>
 {
     let mut n = start;
     for b in text {
-        if n > LIMIT / 10 {
+        if n > WIDE_LIMIT / 10 {
             return None;
         }
         n = 10 * n + digit(*b);
-        if n > LIMIT {
+        if n > WIDE_LIMIT {
             return None;
         }
     }

@@ -24,7 +24,8 @@ ghost use Rattle.basics.specs.Texts.{number};
 ghost use Rattle.plan_text.specs.Quotients.{bytes_of, AreDigits, Compares, LiesBetween, AreSteps, IsStep};
 
 use crate::compare::compare;
-use crate::digits::{Digits, LIMIT};
+use crate::digits::Digits;
+use exact_lin::WIDE_LIMIT;
 use std::cmp::Ordering;
 
 /// A fraction.
@@ -59,7 +60,7 @@ fn advanced(
 {
     let num = from.num + by.num;
     let den = from.den + by.den;
-    if num > LIMIT || den > LIMIT {
+    if num > WIDE_LIMIT || den > WIDE_LIMIT {
         return None;
     }
     if compare(num, den, n, d) != side {
@@ -151,7 +152,7 @@ pub fn lowest_parts(n: &Digits, d: &Digits) -> Option<Quotient>
     'descent: loop {
         let num = above.num + below.num;
         let den = above.den + below.den;
-        if num > LIMIT || den > LIMIT {
+        if num > WIDE_LIMIT || den > WIDE_LIMIT {
             return None;
         }
         match compare(num, den, n, d) {

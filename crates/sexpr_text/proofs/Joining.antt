@@ -102,7 +102,7 @@ own_mate text ts i at Time a b = refl
 
 -- ---- heights stay where no parenthesis stands
 
-still_far : (text : List ℕ) (from n : ℕ) → NoParentheses text from (from + n) → (opened text (from + n) ≡ opened text from) × (closed text (from + n) ≡ closed text from)
+pub still_far : (text : List ℕ) (from n : ℕ) → NoParentheses text from (from + n) → (opened text (from + n) ≡ opened text from) × (closed text (from + n) ≡ closed text from)
 still_far text from zero none = let e : from + 0 ≡ from = omega arith in rw e (refl, refl)
 still_far text from (suc n) none =
     let e : from + suc n ≡ suc (from + n) = omega arith in

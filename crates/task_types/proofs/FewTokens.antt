@@ -12,7 +12,8 @@ use Rattle.task_types.specs.Sets.{is_in, are_several, numbers}
 use Rattle.task_types.specs.Clash.{form_fluents}
 use Rattle.task_types.specs.Touch.{tokens, comparison_tokens, tracked_fluents, trail_facts, soft_facts}
 use Rattle.task_types.specs.WellMade.{IsWellMade, is_short, action_fits}
-use Rattle.task_types.proofs.Everyone.{and_left, and_right}
+use Rattle.basics.proofs.Bools.{and_left, and_right}
+use Rattle.basics.proofs.Naturals.{le_out}
 
 filter-shorter : {X : Type 0} (p : X → Bool) (xs : List X) → length (filter p xs) ≤ length xs
 filter-shorter p [] = omega arith
@@ -21,9 +22,6 @@ filter-shorter p (x ∷ xs) = go (p x) (filter-shorter p xs)
     go : (b : Bool) → length (filter p xs) ≤ length xs → length (cond b (x ∷ filter p xs) (filter p xs)) ≤ suc (length xs)
     go true h = omega arith
     go false h = omega arith
-
-le_out : (m n : ℕ) → nat_le m n ≡ true → m ≤ n
-le_out m n h = grind (arith, nat_tests)
 
 watches_few : (task : TaskParts) (a : ℕ) (action : Action) → action_fits task action ≡ true → length (comparison_tokens a action) ≤ 8
 watches_few task a action h =

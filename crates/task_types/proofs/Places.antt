@@ -5,7 +5,7 @@ use Rattle.std.specs.List.{filter, flat_map, range_with_len, enumerate_from}
 use Rattle.std.proofs.lemmas.List.{append-nil, map-append, map-id, take_more}
 use Rattle.std.proofs.lemmas.List.FromFn.{map-range_with_len_more}
 use Rattle.std.proofs.lemmas.List.Concat.{flat_map-append}
-use Rattle.std.proofs.lemmas.List.Elements.{filter-append}
+use Rattle.basics.proofs.Lists.{map-filter-append}
 use Rattle.task_types.specs.Sets.{numbers, is_in}
 use Rattle.task_types.specs.Related.{IsFlags}
 
@@ -38,9 +38,6 @@ map-filter-one f p x = go (p x)
     go : (b : Bool) → map f (cond b (x ∷ []) []) ≡ (if b then f x ∷ [] else [])
     go true = refl
     go false = refl
-
-pub map-filter-append : {X Y : Type 0} (f : X → Y) (p : X → Bool) (xs ys : List X) → map f (filter p (xs ++ ys)) ≡ map f (filter p xs) ++ map f (filter p ys)
-map-filter-append f p xs ys = ap (map f) (filter-append p xs ys) ∙ map-append f (filter p xs) (filter p ys)
 
 pub map-filter-enumerate-more : {X Y : Type 0} (f : ℕ × X → Y) (p : ℕ × X → Bool) (xs : List X) (i : ℕ) (x : X) → i < length xs → x ≡ slice_index_or xs i x
     → map f (filter p (enumerate_from 0 (take (i + 1) xs))) ≡ map f (filter p (enumerate_from 0 (take i xs))) ++ (if p (i, x) then f (i, x) ∷ [] else [])

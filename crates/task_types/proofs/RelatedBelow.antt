@@ -6,7 +6,6 @@ use Rattle.std.proofs.lemmas.Bool.Decides.{nat_tests}
 use native.Mathlib.Decide.{dec_lt}
 use Rattle.exact_lin.specs.Forms.{LinearForm}
 use Rattle.std.proofs.lemmas.List.{get_or_past}
-use Rattle.std.proofs.lemmas.List.Folds.{list_all-append}
 use Rattle.task_types.specs.declared.actions.Action.{Action}
 use Rattle.task_types.specs.declared.actions.Bound.{Bound}
 use Rattle.task_types.specs.declared.actions.Snap.{Snap}
@@ -22,14 +21,12 @@ use Rattle.task_types.specs.Clash.{form_fluents, condition_facts, condition_flue
 use Rattle.task_types.specs.Touch.{is_start_or_end, started_or_ended, watches}
 use Rattle.task_types.specs.WellMade.{IsWellMade, is_short, are_below, form_fits, forms_fit, condition_fits, amount_fits, changes_fit, effect_fits, snap_fits, action_fits, is_action}
 use Rattle.task_types.specs.Related.{related, related_count, LeadsBack, Tells}
-use Rattle.task_types.proofs.Everyone.{and_left, and_right, and_in}
+use Rattle.basics.proofs.Bools.{and_left, and_right, and_in}
+use Rattle.basics.proofs.Lists.{all_append, all_weaker}
 use Rattle.task_types.proofs.Assigning.{all_read, snap_of_fits}
 
 abbrev pub Below : ℕ → List ℕ → Type 0
 Below n xs = list_all (λ x. nat_lt x n) xs ≡ true
-
-pub all_append : {Z : Type 0} (p : Z → Bool) (xs ys : List Z) → list_all p xs ≡ true → list_all p ys ≡ true → list_all p (xs ++ ys) ≡ true
-all_append p xs ys h k = list_all-append p xs ys ∙ and_in (list_all p xs) (list_all p ys) h k
 
 below_append : (n : ℕ) (xs ys : List ℕ) → Below n xs → Below n ys → Below n (xs ++ ys)
 below_append n xs ys h k = all_append (λ x. nat_lt x n) xs ys h k
@@ -45,10 +42,6 @@ all_filter p q (z ∷ zs) h = go (q z) (all_filter p q zs (and_right (p z) (list
     go : (b : Bool) → list_all p (filter q zs) ≡ true → list_all p (cond b (z ∷ filter q zs) (filter q zs)) ≡ true
     go true r = and_in (p z) (list_all p (filter q zs)) (and_left (p z) (list_all p zs) h) r
     go false r = r
-
-all_weaker : {Z : Type 0} (p q : Z → Bool) → ((z : Z) → p z ≡ true → q z ≡ true) → (zs : List Z) → list_all p zs ≡ true → list_all q zs ≡ true
-all_weaker p q f [] h = refl
-all_weaker p q f (z ∷ zs) h = and_in (q z) (list_all q zs) (f z (and_left (p z) (list_all p zs) h)) (all_weaker p q f zs (and_right (p z) (list_all p zs) h))
 
 below_of : (n : ℕ) (xs : List ℕ) → are_below n xs ≡ true → Below n xs
 below_of n xs h = and_right (is_short xs) (list_all (λ x. nat_lt x n) xs) h

@@ -17,12 +17,10 @@ use Rattle.task_types.proofs.Everyone.{and_left, and_right}
 use Rattle.task_types.proofs.Found.{found-touching}
 use Rattle.task_types.proofs.LastEntries.{is_last-append}
 use Rattle.task_types.proofs.Places.{flat_map-enumerate-more}
-use Rattle.task_types.proofs.RelatedBelow.{all_append}
+use Rattle.basics.proofs.Lists.{all_append}
+use Rattle.basics.proofs.Naturals.{lt_in}
 
 -- ---- entries of earlier tokens
-
-lt_in : (m n : ℕ) → m < n → nat_lt m n ≡ true
-lt_in m n h = grind (arith, nat_tests)
 
 abbrev Earlier : ℕ → List (ℕ × Touch) → Type 0
 Earlier k row = list_all (λ e. nat_lt e.0 k) row ≡ true

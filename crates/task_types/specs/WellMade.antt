@@ -2,6 +2,8 @@
 use Rattle.std.specs.Prelude.{ℕ, ◌+◌, Bool, true, false, not, ◌&&◌, ◌||◌, ◌==◌, nat_lt, nat_le, if◌then◌else◌, IsTrue, List, [], ◌∷◌, map, length, sum, Option, Some, None, is_none, is_some}
 use Rattle.std.specs.List.{list_all, list_any}
 use Rattle.std.specs.Str.{bytes_eq}
+use Rattle.std.specs.Char.{is_ascii_uppercase}
+use Rattle.basics.specs.Texts.{name_limit, is_name}
 use Rattle.rational.specs.Rational.{ℚ, zeroℚ}
 use Rattle.exact_lin.specs.Forms.{LinearForm}
 use Rattle.task_types.specs.declared.actions.Action.{Action}
@@ -97,26 +99,18 @@ watch_limit = 8
 
 -- ---- names
 
--- a byte of a name: a letter in lower case; or that, a digit, a minus or an underscore
-abbrev pub is_letter : ℕ → Bool
-is_letter b = nat_le 97 b && nat_le b 122
+-- no byte is a letter in upper case
+abbrev pub is_lower_case : List ℕ → Bool
+is_lower_case text = list_all (λ b. not (is_ascii_uppercase b)) text
 
-abbrev pub is_name_byte : ℕ → Bool
-is_name_byte b = is_letter b || (nat_le 48 b && nat_le b 57) || b == 45 || b == 95
+-- a name of the task: a name in lower case, and not too long
+abbrev pub is_task_name : List ℕ → Bool
+is_task_name n = is_name n && is_lower_case n && nat_le (length n) name_limit
 
-abbrev pub name_limit : ℕ
-name_limit = 64
-
--- A name begins with a letter, goes on with letters, digits, minuses and underscores, is in lower case, and has at most
--- 64 bytes.
-abbrev pub is_name : List ℕ → Bool
-is_name [] = false
-is_name (b ∷ bs) = is_letter b && list_all is_name_byte bs && nat_lt (length bs) name_limit
-
--- each is a name, and no two are the same
+-- each is such a name, and no two are the same
 abbrev pub are_names : List (List ℕ) → Bool
 are_names [] = true
-are_names (n ∷ ns) = is_name n && not (list_any (bytes_eq n) ns) && are_names ns
+are_names (n ∷ ns) = is_task_name n && not (list_any (bytes_eq n) ns) && are_names ns
 
 -- the arguments are as many as the parameters, and each is one of the objects that fit its parameter
 abbrev pub arguments_fit : List ℕ → List (List ℕ) → Bool

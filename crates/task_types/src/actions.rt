@@ -1,3 +1,5 @@
+//! Schemas, ground actions and their snap actions.
+
 use crate::conditions::{Condition, Effect};
 use exact_lin::{ActionId, FluentId, Form, Fraction, SnapId};
 use sqlite_items::Items;

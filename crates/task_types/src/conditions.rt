@@ -1,3 +1,5 @@
+//! Conditions, and the effects of snap actions.
+
 use exact_lin::{FactId, FluentId, Form, Fraction};
 use sqlite_items::Items;
 

@@ -1,3 +1,5 @@
+//! Trajectory constraints (PDDL3).
+
 use crate::formulas::FactTree;
 use exact_lin::Fraction;
 

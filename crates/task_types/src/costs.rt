@@ -1,3 +1,5 @@
+//! What a plan costs: preferences, time costs, and the metric.
+
 use crate::constraints::Trail;
 use crate::formulas::FactTree;
 use exact_lin::{FluentId, Form, Fraction};

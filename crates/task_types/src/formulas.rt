@@ -1,3 +1,5 @@
+//! Formulas over facts.
+
 use crate::conditions::Literal;
 use sqlite_items::{Boxed, Items};
 

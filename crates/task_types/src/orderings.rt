@@ -1,3 +1,5 @@
+//! How two steps of an ordering hang together, and what blocks an ordering.
+
 /// What two steps of an ordering ask of their times: nothing, no earlier, or later by epsilon.
 #[derive(Clone, Copy, Drop)]
 pub enum Link {

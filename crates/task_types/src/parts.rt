@@ -1,3 +1,5 @@
+//! The parts of a ground task, and the rules by which plans are judged.
+
 use crate::actions::{Action, Schema, Snap};
 use crate::conditions::Condition;
 use crate::constraints::Trail;

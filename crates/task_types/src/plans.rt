@@ -1,3 +1,5 @@
+//! Plans, and the reasons why one is not valid.
+
 use exact_lin::{ActionId, Fraction};
 
 /// A line of a timed plan: an action, when it starts and, of a durative action, how long it takes. `line` is its number in the text that it came from.

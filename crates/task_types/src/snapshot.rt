@@ -1,3 +1,5 @@
+//! What a search knows of a state on its way.
+
 use exact_lin::{ActionId, Fraction};
 use sqlite_items::Items;
 

@@ -7,7 +7,7 @@ returns-then-n c fits =
     let more = number_after-more c.loop-b.n c.args.text.now c.loop-b.b-index c.loop-b-test.true in
     omega (arith, c.loop-b.invariant.left)
 
-pub returns-then-n-gt-LIMIT : goal.returns-then-n-gt-LIMIT
-returns-then-n-gt-LIMIT c fits =
+pub returns-then-n-gt-WIDE_LIMIT : goal.returns-then-n-gt-WIDE_LIMIT
+returns-then-n-gt-WIDE_LIMIT c fits =
     let past = number_after-past c.loop-b.n c.args.text.now c.loop-b.b-index c.loop-b-test.true in
     omega (arith, c.loop-b.invariant.left, c.digit.ensures.value)

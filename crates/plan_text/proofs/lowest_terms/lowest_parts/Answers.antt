@@ -2,14 +2,14 @@ use Rattle.std.proofs.Common.{arith}
 use Rattle.exact_lin.specs.Reckoning.{wide_limit}
 use Rattle.plan_text.proofs.LowestTerms.{past_limit, between_above, between_below, neighbours-some, step-falls}
 use Rattle.plan_text.proofs.lowest_terms.lowest_parts.Goals as goal
-use Rattle.plan_text.proofs.lowest_terms.lowest_parts.Goals.{then-num-gt-LIMIT-via-then-num-gt-LIMIT, then-num-gt-LIMIT-via-else-num-gt-LIMIT+then-den-gt-LIMIT}
+use Rattle.plan_text.proofs.lowest_terms.lowest_parts.Goals.{then-num-gt-WIDE_LIMIT-via-then-num-gt-WIDE_LIMIT, then-num-gt-WIDE_LIMIT-via-else-num-gt-WIDE_LIMIT+then-den-gt-WIDE_LIMIT}
 
-pub returns-then-num-gt-LIMIT-clause-none : goal.returns-then-num-gt-LIMIT-clause-none
-returns-then-num-gt-LIMIT-clause-none c fits =
+pub returns-then-num-gt-WIDE_LIMIT-clause-none : goal.returns-then-num-gt-WIDE_LIMIT-clause-none
+returns-then-num-gt-WIDE_LIMIT-clause-none c fits =
     let parts = past_limit _ _ _ _ _ _ _ c.requires.some c.descent.invariant.between fits in
-    elim c.then-num-gt-LIMIT.branch [
-      | then-num-gt-LIMIT-via-then-num-gt-LIMIT w ↦ omega (arith, w.if-num-gt-LIMIT.true)
-      | then-num-gt-LIMIT-via-else-num-gt-LIMIT+then-den-gt-LIMIT w ↦ omega (arith, w.if-den-gt-LIMIT.true)
+    elim c.then-num-gt-WIDE_LIMIT.branch [
+      | then-num-gt-WIDE_LIMIT-via-then-num-gt-WIDE_LIMIT w ↦ omega (arith, w.if-num-gt-WIDE_LIMIT.true)
+      | then-num-gt-WIDE_LIMIT-via-else-num-gt-WIDE_LIMIT+then-den-gt-WIDE_LIMIT w ↦ omega (arith, w.if-den-gt-WIDE_LIMIT.true)
     ]
 
 pub descent-preserved-in-Greater : goal.descent-preserved-in-Greater

@@ -2,7 +2,8 @@ use Rattle.std.proofs.Common.{map}
 use Rattle.task_types.specs.declared.tokens.Token.TheVariants as token
 use Rattle.task_types.specs.Sets.{are_several}
 use Rattle.task_types.specs.Touch.{tokens, trail_facts, soft_facts}
-use Rattle.task_types.proofs.Places.{map-filter-append, six_put}
+use Rattle.basics.proofs.Lists.{map-filter-append}
+use Rattle.task_types.proofs.Places.{six_put}
 use Rattle.task_types.proofs.touches.tokens.push_tokens.Goals as goal
 
 pub returns : goal.returns
