@@ -34,6 +34,17 @@ pub answered : {A E : Type 0} (r : Result A E) {a b : A} → a ≡ b → IfOk r 
 answered (Ok x) e h = h ∙ e
 answered (Err x) e h = tt
 
+-- what is told at the head that was found is told at the head
+pub at_head : {H A : Type 0} (f : H → A) {h k : H} {t : A} → h ≡ k → t ≡ f k → t ≡ f h
+at_head f e g = g ∙ sym (ap f e)
+
+pub answered_at : {H A E : Type 0} (f : H → A) {h k : H} (r : Result A E) → h ≡ k → IfOk r (λ x. x ≡ f k) → IfOk r (λ x. x ≡ f h)
+answered_at f r e a = answered r (sym (ap f e)) a
+
+-- equal parts make equal wholes
+pub both : {A B C : Type 0} (f : A → B → C) {a a' : A} {b b' : B} → a ≡ a' → b ≡ b' → f a b ≡ f a' b'
+both f {a} {a'} {b} {b'} e g = ap (λ x. f x b) e ∙ ap (f a') g
+
 -- a list whose content is told
 pub holding : {at : ℕ} {x y z more : Content} → x ≡ Inner at y more → y ≡ z → x ≡ Inner at z more
 holding {at} {x} {y} {z} {more} e f = e ∙ ap (λ c. Inner at c more) f
