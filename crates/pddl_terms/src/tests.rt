@@ -3,8 +3,8 @@
 ghost use Rattle.std.specs.Prelude.{◌<◌, length, IfOk};
 
 use crate::{
-    CondTree, Kind, PddlFault, read_condition, read_constraint, read_expression, read_tree,
-    read_typed,
+    CondTree, Kind, PddlFault, read_condition, read_constraint, read_duration, read_expression,
+    read_tree, read_typed,
 };
 use sexpr_text::{Forms, read_forms};
 use std::alloc::Global;
@@ -54,6 +54,12 @@ fn expression(alloc: Global, text: &[u8]) -> Result<(), PddlFault> {
 fn constraint(alloc: Global, text: &[u8]) -> Result<(), PddlFault> {
     let forms = forms_of(alloc, text)?;
     read_constraint(alloc, &forms, 0)?;
+    Ok(())
+}
+
+fn duration(alloc: Global, text: &[u8]) -> Result<(), PddlFault> {
+    let forms = forms_of(alloc, text)?;
+    read_duration(alloc, &forms, 0)?;
     Ok(())
 }
 
@@ -150,6 +156,27 @@ fn constraints_have_their_places(rt: HostRuntime) {
     ];
     for (text, place) in rows {
         assert_eq!(rt; place_of(constraint(rt.alloc(), text)), place);
+    }
+}
+
+#[test]
+fn durations_have_their_places(rt: HostRuntime) {
+    let rows = [
+        (
+            b"(and (>= ?duration 1) (at END (<= ?DURATION (f ?x))))".as_slice(),
+            None,
+        ),
+        (b"(at start (and (when) (= ?duration f)))", None),
+        (b"()", Some(1)),
+        (b"(< ?duration 5)", Some(1)),
+        (b"(= ?x 5)", Some(3)),
+        (b"(= ?duration ?duration)", Some(13)),
+        (b"(at all (= ?duration 1))", Some(4)),
+        (b"(at start (at end (= ?duration 1)))", Some(10)),
+        (b"(at start (and (at end (= ?duration 1))))", Some(15)),
+    ];
+    for (text, place) in rows {
+        assert_eq!(rt; place_of(duration(rt.alloc(), text)), place);
     }
 }
 

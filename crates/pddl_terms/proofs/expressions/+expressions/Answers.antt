@@ -3,7 +3,7 @@ use Rattle.pddl_terms.specs.declared.trees.ExprTree.TheVariants as expr
 use Rattle.pddl_terms.specs.Content.{lexeme, content_at, behind}
 use Rattle.pddl_terms.specs.Expressions.{expr_by, exprs, expr_tree}
 use Rattle.pddl_terms.proofs.Contents.{pushed, ended}
-use Rattle.pddl_terms.proofs.Building.{answered, answered_at, at_head, both, holding, exprs-end, exprs-word, exprs-list, expr_tree-end, expr_tree-word, expr_tree-empty, expr_tree-by}
+use Rattle.pddl_terms.proofs.Building.{answered, answered_at, at_head, holding, exprs-end, exprs-word, exprs-list, expr_tree-end, expr_tree-word, expr_tree-empty, expr_tree-by}
 use Rattle.pddl_terms.proofs.expressions.+expressions.Goals as goal
 
 pub expr_tree-returns-in-End : goal.expr_tree-returns-in-End
