@@ -9,10 +9,13 @@ use crate::{
 use sexpr_text::{Forms, read_forms};
 use std::alloc::Global;
 
-/// The tokens of a text that has some.
+/// The tokens of a short text that has two at least.
 fn forms_of(alloc: Global, text: &[u8]) -> Result<Forms, PddlFault>
     ensures { IfOk result (λ forms. 1 < length forms.tokens) }
 {
+    if text.len() > 100 {
+        return Err(PddlFault::Memory);
+    }
     let forms = match read_forms(alloc, text) {
         Ok(forms) => forms,
         Err(fault) => return Err(PddlFault::Lex(fault)),
