@@ -7,6 +7,7 @@ use Rattle.pddl_terms.specs.declared.heads.ExprHead.{ExprHead}
 use Rattle.pddl_terms.specs.declared.heads.CondHead.{CondHead}
 use Rattle.pddl_terms.specs.declared.heads.TreeHead.{TreeHead}
 use Rattle.pddl_terms.specs.declared.heads.ConHead.{ConHead}
+use Rattle.pddl_terms.specs.declared.heads.DurHead.{DurHead}
 use Rattle.pddl_terms.specs.declared.trees.Name.{Name}
 use Rattle.pddl_terms.specs.declared.trees.Group.{Group}
 use Rattle.pddl_terms.specs.declared.trees.TypeName.{TypeName}
@@ -18,6 +19,8 @@ use Rattle.pddl_terms.specs.declared.trees.FactForm.TheVariants as fact
 use Rattle.pddl_terms.specs.declared.trees.Trajectory.{Trajectory}
 use Rattle.pddl_terms.specs.declared.trees.Trajectory.TheVariants as trail
 use Rattle.pddl_terms.specs.declared.trees.ConForm.TheVariants as con
+use Rattle.pddl_terms.specs.declared.trees.DurTree.TheVariants as dur
+use Rattle.pddl_terms.specs.Durations.{dur_head, dur_by, dur_list, durs, dur_behind, dur_tree}
 use Rattle.pddl_terms.specs.Content.{Content, Lexeme, End, Word, Inner, behind}
 use Rattle.pddl_terms.specs.Items.{IsNoList, IsNoWord}
 use Rattle.rational.specs.Rational.{whole}
@@ -33,6 +36,17 @@ use Rattle.pddl_terms.specs.Constraints.{con_head, trail_of, trail_list, trail_t
 pub answered : {A E : Type 0} (r : Result A E) {a b : A} → a ≡ b → IfOk r (λ x. x ≡ a) → IfOk r (λ x. x ≡ b)
 answered (Ok x) e h = h ∙ e
 answered (Err x) e h = tt
+
+-- what is told at the head that was found is told at the head
+pub at_head : {H A : Type 0} (f : H → A) {h k : H} {t : A} → h ≡ k → t ≡ f k → t ≡ f h
+at_head f e g = g ∙ sym (ap f e)
+
+pub answered_at : {H A E : Type 0} (f : H → A) {h k : H} (r : Result A E) → h ≡ k → IfOk r (λ x. x ≡ f k) → IfOk r (λ x. x ≡ f h)
+answered_at f r e a = answered r (sym (ap f e)) a
+
+-- equal parts make equal wholes
+pub both : {A B C : Type 0} (f : A → B → C) {a a' : A} {b b' : B} → a ≡ a' → b ≡ b' → f a b ≡ f a' b'
+both f {a} {a'} {b} {b'} e g = ap (λ x. f x b) e ∙ ap (f a') g
 
 -- a list whose content is told
 pub holding : {at : ℕ} {x y z more : Content} → x ≡ Inner at y more → y ≡ z → x ≡ Inner at z more
@@ -396,3 +410,47 @@ module _ (x : Content) where
       → con_by h at (cons z) (con_tree (behind z)) z ≡ con_tree x
   unfolding con_tree con_list
   con_tree-by h at w z more e f k = ap (λ g. con_by g at (cons z) (con_tree (behind z)) z) (e ∙ ap con_head f) ∙ ap (λ b. con_by (con_head w.bytes) at (cons z) b z) (sym (con_behind-is z)) ∙ sym (ap con_tree k)
+
+module _ (x : Content) where
+  pub durs-end : (c : ℕ) → x ≡ End c → durs x ≡ []
+  unfolding durs
+  durs-end c e = ap durs e
+
+  pub durs-word : (w : Lexeme) (more : Content) → x ≡ Word w more → durs x ≡ durs more
+  unfolding durs
+  durs-word w more e = ap durs e
+
+  pub durs-list : (at : ℕ) (inner more : Content) → x ≡ Inner at inner more → durs x ≡ dur_tree x ∷ durs more
+  unfolding durs dur_tree
+  durs-list at inner more e = ap durs e ∙ ap (λ t. t ∷ durs more) (sym (ap dur_tree e))
+
+dur_behind-is : (x : Content) → dur_behind x ≡ dur_tree (behind x)
+unfolding dur_behind dur_tree
+dur_behind-is (End c) = refl
+dur_behind-is (Word w more) = refl
+dur_behind-is (Inner at inner more) = refl
+
+module _ (x : Content) where
+  pub dur_tree-none : IsNoList x → dur.LeftOut 0 ≡ dur_tree x
+  unfolding dur_tree
+  dur_tree-none = by_content x
+    where
+      by_content : (y : Content) → IsNoList y → dur.LeftOut 0 ≡ dur_tree y
+      by_content (End c) n = refl
+      by_content (Word w more) n = refl
+      by_content (Inner at inner more) n = absurd n
+
+  pub dur_tree-empty : (at : ℕ) (y more : Content) → x ≡ Inner at y more → IsNoWord y → dur.LeftOut at ≡ dur_tree x
+  unfolding dur_tree dur_list
+  dur_tree-empty at y more e n = by_content y n ∙ sym (ap dur_tree e)
+    where
+      by_content : (z : Content) → IsNoWord z → dur.LeftOut at ≡ dur_list at z
+      by_content (End c) n = refl
+      by_content (Word w more) n = absurd n
+      by_content (Inner at inner more) n = refl
+
+  pub dur_tree-by : (h : DurHead) (at : ℕ) (w : Lexeme) (z more : Content) {v : List ℕ} → h ≡ dur_head v → v ≡ w.bytes → x ≡ Inner at (Word w z) more
+      → dur_by h at (durs z) (dur_tree (behind z)) z ≡ dur_tree x
+  unfolding dur_tree dur_list
+  dur_tree-by h at w z more e f k = ap (λ g. dur_by g at (durs z) (dur_tree (behind z)) z) (e ∙ ap dur_head f)
+      ∙ ap (λ b. dur_by (dur_head w.bytes) at (durs z) b z) (sym (dur_behind-is z)) ∙ sym (ap dur_tree k)

@@ -1,8 +1,7 @@
 -- Each rest of a list that may go on has a content that ends it well.
-use Rattle.std.proofs.Common.{◌≡◌, ℕ, Bool, true, false, List, [], ◌∷◌, ◌++◌, Option, Some, None, refl, sym, ap, ◌∙◌, append-nil}
+use Rattle.std.proofs.Common.{◌≡◌, ℕ, true, [], ◌++◌, Some, refl, ap, ◌∙◌}
 use lib.Chars.{codes}
-use Rattle.sexpr_text.specs.declared.token.TokenKind.{TokenKind}
-use Rattle.sexpr_text.specs.declared.token.TokenKind.TheVariants.{Name, Number, Mark}
+use Rattle.sexpr_text.specs.declared.token.TokenKind.TheVariants.{Name, Number, Mark, Variable}
 use Rattle.pddl_terms.specs.declared.grammar.Line.{Line}
 use Rattle.pddl_terms.specs.declared.grammar.Line.TheVariants as line
 use Rattle.pddl_terms.specs.declared.grammar.Rest.{Rest}
@@ -13,6 +12,7 @@ use Rattle.pddl_terms.specs.Grammar.{after}
 use Rattle.pddl_terms.specs.Expressions.{expr_head}
 use Rattle.pddl_terms.specs.Conditions.{cond_head}
 use Rattle.pddl_terms.specs.Constraints.{con_head}
+use Rattle.pddl_terms.specs.Durations.{dur_head}
 use Rattle.pddl_terms.specs.Lines.{inside}
 use Rattle.pddl_terms.specs.Shape.{wrong, wrong_item, takes, takes_line, enters, leaves, or_here}
 use Rattle.pddl_terms.specs.Beginnings.{may_go_on}
@@ -22,6 +22,9 @@ name = record { at = 0; kind = Name; bytes = codes "a" }
 
 abbrev number : Lexeme
 number = record { at = 0; kind = Number; bytes = codes "0" }
+
+abbrev duration : Lexeme
+duration = record { at = 0; kind = Variable; bytes = codes "?duration" }
 
 abbrev less : Lexeme
 less = record { at = 0; kind = Mark; bytes = codes "<" }
@@ -49,6 +52,8 @@ whole line.Denied = Word name (End 0)
 whole line.Cmp = Word less (Word number (Word number (End 0)))
 whole line.Con = Word and (End 0)
 whole line.Trail = Word always (Inner 0 (End 0) (End 0))
+whole line.Dur = Word and (End 0)
+whole line.UntaggedDur = Word and (End 0)
 whole l = End 0
 
 -- one of the line in front
@@ -57,6 +62,7 @@ item line.Term x = Word name x
 item line.Number x = Word number x
 item line.Expr x = Word number x
 item line.EffectExpr x = Word number x
+item line.DurationName x = Word duration x
 item l x = Inner 0 (whole l) x
 
 -- what ends a list well
@@ -73,10 +79,12 @@ complete rest.Sides = Word name (Word name (End 0))
 complete (rest.Side plain) = Word name (End 0)
 complete (rest.OptionalName l) = Word name (item l (End 0))
 complete (rest.EndAnd l) = Word end (item l (End 0))
+complete rest.Tag = Word end (item line.UntaggedDur (End 0))
+complete rest.OneUntagged = item line.UntaggedDur (End 0)
 complete r = End 0
 
 whole-right : (l : Line) → may_go_on (rest.Whole l) ≡ true → wrong (rest.Whole l) (whole l) ≡ []
-unfolding wrong takes enters leaves expr_head cond_head con_head is_left_out is_left_out_of_condition
+unfolding wrong takes enters leaves expr_head cond_head con_head dur_head is_left_out is_left_out_of_condition
 whole-right line.Expr h = refl
 whole-right line.EffectExpr h = refl
 whole-right line.Cond h = refl
@@ -85,6 +93,9 @@ whole-right line.Cmp h = refl
 whole-right line.Tree h = refl
 whole-right line.Con h = refl
 whole-right line.Trail h = refl
+whole-right line.Dur h = refl
+whole-right line.UntaggedDur h = refl
+whole-right line.DurationName h = absurd cc
 whole-right line.Term h = absurd cc
 whole-right line.Number h = absurd cc
 whole-right line.VariableList h = absurd cc
@@ -99,6 +110,7 @@ item-goes line.Term r x f g = f name x
 item-goes line.Number r x f g = f number x
 item-goes line.Expr r x f g = f number x
 item-goes line.EffectExpr r x f g = f number x
+item-goes line.DurationName r x f g = f duration x
 item-goes line.VariableList r x f g = g 0 (End 0) x
 item-goes line.Cond r x f g = g 0 (End 0) x
 item-goes line.Tree r x f g = g 0 (End 0) x
@@ -106,6 +118,8 @@ item-goes line.Denied r x f g = g 0 (whole line.Denied) x ∙ ap (λ l. l ++ wro
 item-goes line.Cmp r x f g = g 0 (whole line.Cmp) x ∙ ap (λ l. l ++ wrong (after r) x) (whole-right line.Cmp refl)
 item-goes line.Con r x f g = g 0 (whole line.Con) x ∙ ap (λ l. l ++ wrong (after r) x) (whole-right line.Con refl)
 item-goes line.Trail r x f g = g 0 (whole line.Trail) x ∙ ap (λ l. l ++ wrong (after r) x) (whole-right line.Trail refl)
+item-goes line.Dur r x f g = g 0 (whole line.Dur) x ∙ ap (λ l. l ++ wrong (after r) x) (whole-right line.Dur refl)
+item-goes line.UntaggedDur r x f g = g 0 (whole line.UntaggedDur) x ∙ ap (λ l. l ++ wrong (after r) x) (whole-right line.UntaggedDur refl)
 
 one : (l : Line) (x : Content) → wrong (rest.One l) (item l x) ≡ wrong rest.Nothing x
 unfolding wrong takes enters leaves
@@ -131,6 +145,9 @@ complete-right rest.Sides h = refl
 complete-right (rest.Side plain) h = refl
 complete-right (rest.OptionalName l) h = one l (End 0)
 complete-right (rest.EndAnd l) h = one l (End 0)
+complete-right rest.Tag h = ap (λ l. l ++ []) (whole-right line.UntaggedDur refl)
+complete-right rest.OneUntagged h = ap (λ l. l ++ []) (whole-right line.UntaggedDur refl)
+complete-right rest.ManyUntagged h = refl
 
 pub item-right : (l : Line) (x : Content) → wrong_item l (item l x) ≡ []
 unfolding wrong_item wrong
@@ -143,5 +160,8 @@ item-right line.Cond x = refl
 item-right line.Tree x = refl
 item-right line.Denied x = whole-right line.Denied refl
 item-right line.Cmp x = whole-right line.Cmp refl
+item-right line.DurationName x = refl
+item-right line.Dur x = whole-right line.Dur refl
+item-right line.UntaggedDur x = whole-right line.UntaggedDur refl
 item-right line.Con x = whole-right line.Con refl
 item-right line.Trail x = whole-right line.Trail refl

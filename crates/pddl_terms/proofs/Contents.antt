@@ -1,6 +1,6 @@
 -- What a list holds from one token to the next.
 use Rattle.std.proofs.Common.{◌≡◌, ℕ, zero, suc, ◌+◌, ◌≤◌, ◌<◌, List, [], ◌∷◌, ◌++◌, drop, length, refl, sym, ap, ◌∙◌, arith, add-one, Ok, append-nil, append_assoc}
-use Rattle.std.specs.Prelude.{slice_get, slice_index_or, slice_range, All, Some}
+use Rattle.std.specs.Prelude.{slice_index_or, slice_range}
 use Rattle.std.proofs.lemmas.List.{drop_all}
 use Rattle.sexpr_text.specs.declared.token.Token.{Token}
 use Rattle.sexpr_text.specs.declared.token.TokenKind.{TokenKind}

@@ -1,5 +1,5 @@
 -- Numbers of few digits fit 64 bits, and a word that is a number has few.
-use Rattle.std.proofs.Common.{◌≡◌, ℕ, zero, suc, ◌+◌, ◌*◌, ◌-◌, ◌<◌, ◌≤◌, ◌^◌, Bool, true, false, ◌&&◌, List, [], ◌∷◌, count_by, cond, pow-suc, refl, sym, ap, ◌∙◌, subst, arith, Ok, Err, Result, if◌then◌else◌}
+use Rattle.std.proofs.Common.{◌≡◌, ℕ, zero, suc, ◌+◌, ◌*◌, ◌-◌, ◌<◌, ◌≤◌, ◌^◌, Bool, true, false, ◌&&◌, List, [], ◌∷◌, cond, pow-suc, refl, sym, ap, ◌∙◌, subst, arith, Ok, Err, if◌then◌else◌}
 use Rattle.std.specs.Prelude.{length, nat_le, drop}
 use Rattle.std.specs.Char.{is_ascii_digit}
 use Rattle.std.proofs.Math.Nat.{pow-le-pow_right}
@@ -10,7 +10,6 @@ use Rattle.basics.specs.Texts.{number, number_after, digit_count, behind_point, 
 use Rattle.basics.proofs.Bools.{and_right}
 use Rattle.sexpr_text.specs.declared.token.TokenKind.{TokenKind}
 use Rattle.sexpr_text.specs.declared.token.TokenKind.TheVariants.{Name, Variable, Keyword, Number, Mark, Time}
-use Rattle.sexpr_text.specs.declared.run.RunFault.{RunFault}
 use Rattle.sexpr_text.specs.declared.run.RunFault.TheVariants.{Unknown, LongName, Malformed}
 use Rattle.sexpr_text.specs.Runs.{reading, name_reading, number_reading, is_variable, is_keyword, begins_as_number, is_mark, is_time}
 

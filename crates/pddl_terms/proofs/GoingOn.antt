@@ -1,10 +1,9 @@
 -- Up to its first wrong place a list goes on as one that is right.
-use Rattle.std.proofs.Common.{◌≡◌, ◌⊎◌, ℕ, Bool, true, false, List, [], ◌∷◌, ◌++◌, Option, Some, None, refl, sym, ap, ◌∙◌, subst, inl, inr, if◌then◌else◌}
+use Rattle.std.proofs.Common.{◌≡◌, ◌⊎◌, ℕ, Bool, true, false, List, [], ◌∷◌, ◌++◌, Option, Some, None, refl, ap, ◌∙◌, subst, inl, inr, if◌then◌else◌}
 use lib.Chars.{codes}
 use Rattle.sexpr_text.specs.declared.token.TokenKind.{TokenKind}
 use Rattle.pddl_terms.specs.declared.grammar.Line.{Line}
 use Rattle.pddl_terms.specs.declared.grammar.Line.TheVariants as line
-use Rattle.pddl_terms.specs.declared.grammar.Listed.{Listed}
 use Rattle.pddl_terms.specs.declared.grammar.Rest.{Rest}
 use Rattle.pddl_terms.specs.declared.grammar.Rest.TheVariants as rest
 use Rattle.pddl_terms.specs.declared.heads.ExprHead.{ExprHead}
@@ -17,7 +16,10 @@ use Rattle.pddl_terms.specs.declared.heads.TrailHead.{TrailHead}
 use Rattle.pddl_terms.specs.declared.heads.TrailHead.TheVariants as trail
 use Rattle.pddl_terms.specs.declared.heads.ConHead.{ConHead}
 use Rattle.pddl_terms.specs.declared.heads.ConHead.TheVariants as con
-use Rattle.pddl_terms.specs.Content.{Content, Lexeme, End, Word, Inner}
+use Rattle.pddl_terms.specs.declared.heads.DurHead.{DurHead}
+use Rattle.pddl_terms.specs.declared.heads.DurHead.TheVariants as dur
+use Rattle.pddl_terms.specs.Durations.{dur_head, dur_rest, untagged_rest}
+use Rattle.pddl_terms.specs.Content.{Content, End, Word, Inner}
 use Rattle.pddl_terms.specs.Words.{same_word, is_name, is_variable, is_number, is_term_or_end, is_left_out}
 use Rattle.pddl_terms.specs.Grammar.{wanted, after, only_if}
 use Rattle.pddl_terms.specs.Typed.{is_listed}
@@ -26,7 +28,7 @@ use Rattle.pddl_terms.specs.Conditions.{cond_head, cond_rest, denied_rest, cmp_r
 use Rattle.pddl_terms.specs.Formulas.{tree_head, tree_rest}
 use Rattle.pddl_terms.specs.Constraints.{con_head, con_rest, trail_rest, behind_trail}
 use Rattle.pddl_terms.specs.Lines.{begins, inside, stands}
-use Rattle.pddl_terms.specs.Shape.{may_end, takes, takes_line, enters, enters_line, leaves, kind_ahead, word_ahead, or_here, wrong, wrong_item, IsFirst}
+use Rattle.pddl_terms.specs.Shape.{may_end, takes, takes_line, enters, enters_line, enters_untagged, leaves, kind_ahead, word_ahead, or_here, wrong, wrong_item, IsFirst}
 use Rattle.pddl_terms.specs.Beginnings.{SameBefore, may_go_on}
 use Rattle.pddl_terms.proofs.Completions.{complete, complete-right, item, item-right}
 
@@ -123,6 +125,22 @@ goes-trails con.Preference = refl
 goes-trails (con.Trail h) = goes-trail h
 goes-trails con.Unknown = refl
 
+goes-dur : (h : DurHead) → goes (dur_rest h) ≡ true
+unfolding goes
+goes-dur dur.LeftOut = refl
+goes-dur dur.And = refl
+goes-dur dur.At = refl
+goes-dur (dur.Bound c) = refl
+goes-dur dur.Unknown = refl
+
+goes-untagged : (h : DurHead) → goes (untagged_rest h) ≡ true
+unfolding goes
+goes-untagged dur.LeftOut = refl
+goes-untagged dur.And = refl
+goes-untagged dur.At = refl
+goes-untagged (dur.Bound c) = refl
+goes-untagged dur.Unknown = refl
+
 goes-begins : (l : Line) (word : List ℕ) (kind : TokenKind) → goes (begins l word kind) ≡ true
 unfolding goes
 goes-begins line.Expr word kind = goes-expr kind line.Expr (expr_head word)
@@ -133,6 +151,9 @@ goes-begins line.Cmp word kind = goes-cmp kind (cond_head word)
 goes-begins line.Tree word kind = goes-tree kind (tree_head word)
 goes-begins line.Con word kind = goes-con (con_head word)
 goes-begins line.Trail word kind = goes-trails (con_head word)
+goes-begins line.Dur word kind = goes-dur (dur_head word)
+goes-begins line.UntaggedDur word kind = goes-untagged (dur_head word)
+goes-begins line.DurationName word kind = refl
 goes-begins line.Term word kind = refl
 goes-begins line.Number word kind = refl
 goes-begins line.VariableList word kind = refl
@@ -167,12 +188,14 @@ goes-takes rest.Sides word kind ahead = goes-if (is_variable kind) _ _ (goes-onl
 goes-takes (rest.Side plain) word kind ahead = goes-if (is_variable kind) _ _ (goes-only_if plain rest.Nothing refl) (goes-only_if _ rest.Nothing refl)
 goes-takes (rest.OptionalName l) word kind ahead = goes-only_if (is_name kind) (rest.One l) refl
 goes-takes (rest.EndAnd l) word kind ahead = goes-only_if (same_word word (codes "end")) (rest.One l) refl
+goes-takes rest.Tag word kind ahead = goes-only_if _ rest.OneUntagged refl
 goes-takes r word kind ahead = goes-line (wanted r) word kind (after r) (goes-after r)
 
 goes-inside : (l : Line) → goes (inside l) ≡ true
 unfolding goes
 goes-inside line.Term = refl
 goes-inside line.Number = refl
+goes-inside line.DurationName = refl
 goes-inside line.VariableList = refl
 goes-inside l = refl
 
@@ -187,6 +210,8 @@ goes-enters rest.Skipped first = refl
 goes-enters (rest.TypeName of) first = goes-only_if (is_left_out first) rest.Skipped refl
 goes-enters rest.Sides first = refl
 goes-enters (rest.Side plain) first = refl
+goes-enters rest.OneUntagged first = goes-if (same_word first (codes "at")) None (Some (rest.Whole line.UntaggedDur)) refl refl
+goes-enters rest.ManyUntagged first = goes-if (same_word first (codes "at")) None (Some (rest.Whole line.UntaggedDur)) refl refl
 goes-enters r first = goes-enters_line (wanted r)
 
 goes-leaves : (r : Rest) → may_go_on (leaves r) ≡ true
@@ -195,6 +220,7 @@ goes-leaves rest.Skipped = refl
 goes-leaves (rest.TypeName of) = refl
 goes-leaves rest.Sides = refl
 goes-leaves (rest.Side plain) = refl
+goes-leaves rest.ManyUntagged = refl
 goes-leaves r = goes-after r
 
 -- A word before what ends the rest well: the token ahead changes nothing.
@@ -219,7 +245,15 @@ takes-ahead (rest.TypeName of) word kind ahead s e = e
 takes-ahead (rest.Side plain) word kind ahead s e = e
 takes-ahead (rest.OptionalName l) word kind ahead s e = e
 takes-ahead (rest.EndAnd l) word kind ahead s e = e
+takes-ahead rest.Tag word kind ahead s e = e
 takes-ahead r word kind ahead s e = e
+
+untagged-ahead : (first : List ℕ) (s : Rest) → enters_untagged first ≡ Some s → enters_untagged (word_ahead (complete s)) ≡ Some s
+untagged-ahead first s e = by_test (same_word first (codes "at")) e
+  where
+    by_test : (b : Bool) → (if b then None else Some (rest.Whole line.UntaggedDur)) ≡ Some s → enters_untagged (word_ahead (complete s)) ≡ Some s
+    by_test true f = absurd cc
+    by_test false f = let same : rest.Whole line.UntaggedDur ≡ s = cc in subst (λ (t : Rest). enters_untagged (word_ahead (complete t)) ≡ Some t) same refl
 
 enters-ahead : (r : Rest) (first : List ℕ) (s : Rest) → enters r first ≡ Some s → enters r (word_ahead (complete s)) ≡ Some s
 unfolding enters is_left_out
@@ -231,6 +265,8 @@ enters-ahead (rest.TypeName of) first s e = by_test (is_left_out first) e
 enters-ahead rest.Skipped first s e = e
 enters-ahead rest.Sides first s e = e
 enters-ahead (rest.Side plain) first s e = e
+enters-ahead rest.OneUntagged first s e = untagged-ahead first s e
+enters-ahead rest.ManyUntagged first s e = untagged-ahead first s e
 enters-ahead r first s e = e
 
 -- Another content of the list, which is right and has the same tokens before the place. Where the place isn't that of

@@ -1,5 +1,5 @@
 -- The first wrong place is the least.
-use Rattle.std.proofs.Common.{◌≡◌, ℕ, suc, ◌≤◌, Bool, true, false, List, [], ◌∷◌, ◌++◌, Option, Some, None, if◌then◌else◌, sym, subst, arith}
+use Rattle.std.proofs.Common.{ℕ, suc, ◌≤◌, Bool, true, false, List, [], ◌∷◌, ◌++◌, Option, Some, None, if◌then◌else◌, sym, subst, arith}
 use Rattle.pddl_terms.specs.declared.grammar.Rest.{Rest}
 use Rattle.pddl_terms.specs.Content.{Content, End, Word, Inner}
 use Rattle.pddl_terms.specs.Shape.{wrong, takes, enters, leaves, or_here, kind_ahead, word_ahead, may_end, IsFirst}

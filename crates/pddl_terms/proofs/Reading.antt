@@ -1,10 +1,10 @@
 -- The answers of a call that does the shape phase alone.
-use Rattle.std.proofs.Common.{◌≡◌, ◌⊎◌, ℕ, List, [], ◌∷◌, sym, ◌∙◌, inl, inr, refl, Ok, Err, ap}
+use Rattle.std.proofs.Common.{◌≡◌, ℕ, List, [], ◌∷◌, sym, ◌∙◌, inl, inr, refl, Ok, Err, ap}
 use Rattle.pddl_terms.specs.declared.faults.Kind.TheVariants.{Shape}
 use Rattle.pddl_terms.specs.declared.faults.PddlFault.{PddlFault}
 use Rattle.pddl_terms.specs.declared.faults.PddlFault.TheVariants.{At, Memory}
 use Rattle.pddl_terms.specs.Shape.{IsFirst}
-use Rattle.pddl_terms.specs.Readings.{Derives, Reads}
+use Rattle.pddl_terms.specs.Readings.{Reads}
 
 not_both : (places : List ℕ) (place : ℕ) → places ≡ [] → IsFirst place places → ⊥
 not_both places place e f = let both : ◌≡◌ {A = List ℕ} [] (place ∷ f.0) = sym e ∙ f.1 in cc

@@ -1,5 +1,5 @@
 -- No list that goes alike through the first wrong place is right.
-use Rattle.std.proofs.Common.{◌≡◌, ◌⊎◌, ℕ, suc, ◌+◌, ◌≤◌, ◌<◌, List, [], ◌∷◌, ◌++◌, length, slice_index_or, Option, Some, None, refl, sym, ap, ◌∙◌, subst, arith, inl, inr}
+use Rattle.std.proofs.Common.{◌≡◌, ◌⊎◌, ℕ, suc, ◌+◌, ◌≤◌, ◌<◌, List, ◌++◌, length, slice_index_or, Option, Some, None, refl, sym, ap, subst, arith, inl, inr}
 use Rattle.sexpr_text.specs.declared.token.Token.{Token}
 use Rattle.sexpr_text.specs.declared.token.TokenKind.TheVariants.{Open}
 use Rattle.sexpr_text.specs.Forms.{Lexed, MatesAreBehind}
@@ -8,7 +8,7 @@ use Rattle.sexpr_text.proofs.Spans.{spans_within}
 use Rattle.sexpr_text.proofs.Joining.{get_from_read}
 use Rattle.pddl_terms.specs.declared.grammar.Line.{Line}
 use Rattle.pddl_terms.specs.declared.grammar.Rest.{Rest}
-use Rattle.pddl_terms.specs.Content.{Content, Lexeme, End, Word, Inner, content_at}
+use Rattle.pddl_terms.specs.Content.{Content, End, Word, Inner, content_at}
 use Rattle.pddl_terms.specs.Lines.{inside}
 use Rattle.pddl_terms.specs.Shape.{takes, enters, leaves, kind_ahead, word_ahead, or_here, wrong, wrong_item, IsFirst}
 use Rattle.pddl_terms.specs.Order.{close_of, Ascends}

@@ -1,7 +1,7 @@
 -- Believed: lists that go alike up to a place.
 use Rattle.std.specs.Prelude.{◌≡◌, ◌⊎◌, ℕ, Bool, true, false}
 use Rattle.pddl_terms.specs.declared.grammar.Line.{Line}
-use Rattle.pddl_terms.specs.declared.grammar.Line.TheVariants.{Term, Number, VariableList}
+use Rattle.pddl_terms.specs.declared.grammar.Line.TheVariants.{Term, Number, VariableList, DurationName}
 use Rattle.pddl_terms.specs.declared.grammar.Rest.{Rest}
 use Rattle.pddl_terms.specs.declared.grammar.Rest.TheVariants.{Whole}
 use Rattle.pddl_terms.specs.Content.{Content, End, Word, Inner}
@@ -31,6 +31,7 @@ abbrev pub has_lists : Line → Bool
 has_lists Term = false
 has_lists Number = false
 has_lists VariableList = false
+has_lists DurationName = false
 has_lists l = true
 
 -- Whether some list goes on so. What may follow behind a token always does; only the whole of a line without lists,

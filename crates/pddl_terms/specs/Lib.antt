@@ -7,6 +7,7 @@ pub mod Expressions
 pub mod Conditions
 pub mod Formulas
 pub mod Constraints
+pub mod Durations
 pub mod Lines
 pub mod Shape
 pub mod Order

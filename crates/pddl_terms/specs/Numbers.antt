@@ -4,7 +4,7 @@ use Rattle.std.specs.Char.{is_ascii_digit}
 use Rattle.basics.specs.Texts.{number, digit_count, behind_point}
 use Rattle.rational.specs.Rational.{ℚ, ratio, whole, neg_ℚ}
 use Rattle.pddl_terms.specs.Words.{is_number}
-use Rattle.pddl_terms.specs.Content.{Content, Lexeme, End, Word, Inner}
+use Rattle.pddl_terms.specs.Content.{Content, End, Word, Inner}
 
 -- its digits alone
 abbrev pub digits_of : List ℕ → List ℕ

@@ -1,10 +1,10 @@
 -- Believed: which places of a text have the wrong shape.
-use Rattle.std.specs.Prelude.{◌≡◌, ℕ, Bool, true, false, List, [], ◌∷◌, ◌++◌, Option, Some, None, if◌then◌else◌}
+use Rattle.std.specs.Prelude.{◌≡◌, ℕ, Bool, true, false, ◌||◌, List, [], ◌∷◌, ◌++◌, Option, Some, None, if◌then◌else◌}
 use lib.Chars.{codes}
 use Rattle.sexpr_text.specs.declared.token.TokenKind.{TokenKind}
 use Rattle.sexpr_text.specs.declared.token.TokenKind.TheVariants.{Open, Close}
 use Rattle.pddl_terms.specs.declared.grammar.Line.{Line}
-use Rattle.pddl_terms.specs.declared.grammar.Line.TheVariants.{Expr}
+use Rattle.pddl_terms.specs.declared.grammar.Line.TheVariants.{Expr, UntaggedDur}
 use Rattle.pddl_terms.specs.declared.grammar.Rest.{Rest}
 use Rattle.pddl_terms.specs.declared.grammar.Rest.TheVariants as rest
 use Rattle.pddl_terms.specs.Words.{same_word, is_name, is_left_out}
@@ -23,6 +23,7 @@ may_end (rest.Whole l) = may_be_empty l
 may_end rest.Skipped = true
 may_end (rest.Typed of) = true
 may_end (rest.TypedMore of) = true
+may_end rest.ManyUntagged = true
 may_end r = false
 
 -- a word where a line is wanted
@@ -41,6 +42,7 @@ takes rest.Sides word kind ahead = first_side kind ahead
 takes (rest.Side plain) word kind ahead = other_side plain kind
 takes (rest.OptionalName l) word kind ahead = only_if (is_name kind) (rest.One l)
 takes (rest.EndAnd l) word kind ahead = only_if (same_word word (codes "end")) (rest.One l)
+takes rest.Tag word kind ahead = only_if (same_word word (codes "start") || same_word word (codes "end")) rest.OneUntagged
 takes r word kind ahead = takes_line (wanted r) word kind (after r)
 
 -- what a list may hold where a line is wanted
@@ -48,12 +50,18 @@ abbrev pub enters_line : Option Line → Option Rest
 enters_line None = None
 enters_line (Some l) = inside l
 
+-- what a list below a tag may hold, if it has no tag
+abbrev pub enters_untagged : List ℕ → Option Rest
+enters_untagged first = if same_word first (codes "at") then None else Some (rest.Whole UntaggedDur)
+
 -- What a list that stands next may hold, if one may stand there; `first` is the word that begins it.
 unfoldable pub enters : Rest → List ℕ → Option Rest
 enters rest.Skipped first = Some rest.Skipped
 enters (rest.TypeName of) first = only_if (is_left_out first) rest.Skipped
 enters rest.Sides first = Some (rest.Whole Expr)
 enters (rest.Side plain) first = Some (rest.Whole Expr)
+enters rest.OneUntagged first = enters_untagged first
+enters rest.ManyUntagged first = enters_untagged first
 enters r first = enters_line (wanted r)
 
 -- what may follow behind a list that stands next
@@ -62,6 +70,7 @@ leaves rest.Skipped = rest.Skipped
 leaves (rest.TypeName of) = rest.Typed of
 leaves rest.Sides = rest.Side false
 leaves (rest.Side plain) = rest.Nothing
+leaves rest.ManyUntagged = rest.ManyUntagged
 leaves r = after r
 
 -- the kind of the token that stands next

@@ -22,6 +22,11 @@ pub enum Line {
     Tree,
     Con,
     Trail,
+    /// The word `?duration`.
+    DurationName,
+    Dur,
+    /// A duration below a tag, in which no other tag stands.
+    UntaggedDur,
 }
 
 /// What a typed list lists.
@@ -64,6 +69,12 @@ pub enum Rest {
     OptionalName(Line),
     /// The word `end`, and then one.
     EndAnd(Line),
+    /// The word `start` or `end`, and then a duration below the tag.
+    Tag,
+    /// A duration below a tag.
+    OneUntagged,
+    /// Durations below a tag.
+    ManyUntagged,
 }
 
 /// The line of what has to stand next, where one line says it.
@@ -87,7 +98,10 @@ pub(crate) fn wanted(rest: Rest) -> Option<Line>
         | Rest::TypeName(_)
         | Rest::Sides
         | Rest::Side(_)
-        | Rest::EndAnd(_) => None,
+        | Rest::EndAnd(_)
+        | Rest::Tag
+        | Rest::OneUntagged
+        | Rest::ManyUntagged => None,
     }
 }
 
@@ -112,7 +126,10 @@ pub(crate) fn after(rest: Rest) -> Rest
         | Rest::TypeName(_)
         | Rest::Sides
         | Rest::Side(_)
-        | Rest::EndAnd(_) => Rest::Nothing,
+        | Rest::EndAnd(_)
+        | Rest::Tag
+        | Rest::OneUntagged
+        | Rest::ManyUntagged => Rest::Nothing,
     }
 }
 

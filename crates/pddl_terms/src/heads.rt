@@ -5,6 +5,7 @@ ghost use Rattle.pddl_terms.specs.Expressions.{expr_head};
 ghost use Rattle.pddl_terms.specs.Conditions.{comparison_of, compared, cond_head};
 ghost use Rattle.pddl_terms.specs.Formulas.{tree_head};
 ghost use Rattle.pddl_terms.specs.Constraints.{trail_head, or_unknown, con_head};
+ghost use Rattle.pddl_terms.specs.Durations.{bound_head, dur_head};
 
 use crate::trees::Comparison;
 use crate::words::{is_left_out, is_left_out_of_condition, same_word};
@@ -66,6 +67,16 @@ pub(crate) enum ConHead {
     Forall,
     Preference,
     Trail(TrailHead),
+    Unknown,
+}
+
+/// What a word begins in a duration.
+#[derive(Clone, Copy)]
+pub(crate) enum DurHead {
+    LeftOut,
+    And,
+    At,
+    Bound(Comparison),
     Unknown,
 }
 
@@ -202,5 +213,34 @@ pub(crate) fn con_head(word: &[u8]) -> ConHead
         ConHead::Preference
     } else {
         or_unknown(trail_head(word))
+    }
+}
+
+fn bound_head(word: &[u8]) -> DurHead
+    ensures { result ≡ bound_head word.now }
+{
+    if same_word(word, b"=") {
+        DurHead::Bound(Comparison::Equal)
+    } else if same_word(word, b"<=") {
+        DurHead::Bound(Comparison::AtMost)
+    } else if same_word(word, b">=") {
+        DurHead::Bound(Comparison::AtLeast)
+    } else {
+        DurHead::Unknown
+    }
+}
+
+#[tactic(auto, unfolding(crate::specs::Durations::dur_head))]
+pub(crate) fn dur_head(word: &[u8]) -> DurHead
+    ensures { result ≡ dur_head word.now }
+{
+    if is_left_out(word) {
+        DurHead::LeftOut
+    } else if same_word(word, b"and") {
+        DurHead::And
+    } else if same_word(word, b"at") {
+        DurHead::At
+    } else {
+        bound_head(word)
     }
 }

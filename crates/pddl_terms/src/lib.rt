@@ -1,11 +1,12 @@
-//! Parts of PDDL texts, read from the tokens of a text: typed lists, conditions, expressions, formulas over facts and
-//! constraints.
+//! Parts of PDDL texts, read from the tokens of a text: typed lists, conditions, expressions, formulas over facts,
+//! constraints and durations.
 //!
 //! Each call answers the tree that the grammar derives there, or the first place at which no accepted text can go on.
 #![tactic(auto)]
 
 mod conditions;
 mod constraints;
+mod durations;
 mod expressions;
 mod faults;
 mod formulas;
@@ -24,10 +25,12 @@ mod words;
 pub use faults::{Kind, PddlFault};
 pub use grammar::{Line, Listed, Rest};
 pub use laws::{first_is_least, no_text_goes_further, some_text_goes_so_far};
-pub use readers::{read_condition, read_constraint, read_expression, read_tree, read_typed};
+pub use readers::{
+    read_condition, read_constraint, read_duration, read_expression, read_tree, read_typed,
+};
 pub use trees::{
-    Atom, Comparison, ConForm, CondTree, ExprTree, FactForm, Group, Name, Side, Term, Trajectory,
-    TypeName,
+    Atom, Comparison, ConForm, CondTree, DurTree, ExprTree, FactForm, Group, Name, Side, Term,
+    Trajectory, TypeName,
 };
 
 #[cfg(test)]

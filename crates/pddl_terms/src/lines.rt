@@ -6,11 +6,13 @@ ghost use Rattle.pddl_terms.specs.Expressions.{expr_rest, is_duration};
 ghost use Rattle.pddl_terms.specs.Conditions.{cond_rest, denied_rest, cmp_rest};
 ghost use Rattle.pddl_terms.specs.Formulas.{tree_rest};
 ghost use Rattle.pddl_terms.specs.Constraints.{behind_trail, con_rest, trail_rest};
+ghost use Rattle.pddl_terms.specs.Durations.{dur_rest, untagged_rest};
 ghost use Rattle.pddl_terms.specs.Lines.{stands, begins, may_be_empty, inside};
 
 use crate::grammar::{Line, Listed, Rest, only_if};
 use crate::heads::{
-    ConHead, CondHead, ExprHead, TrailHead, TreeHead, con_head, cond_head, expr_head, tree_head,
+    ConHead, CondHead, DurHead, ExprHead, TrailHead, TreeHead, con_head, cond_head, dur_head,
+    expr_head, tree_head,
 };
 use crate::words::{is_name, is_number, is_variable, same_word};
 use sexpr_text::TokenKind;
@@ -121,6 +123,30 @@ fn trail_rest(head: ConHead) -> Option<Rest>
     }
 }
 
+fn dur_rest(head: DurHead) -> Option<Rest>
+    ensures { result ≡ dur_rest head }
+{
+    match head {
+        DurHead::LeftOut => Some(Rest::Skipped),
+        DurHead::And => Some(Rest::Many(Line::Dur)),
+        DurHead::At => Some(Rest::Tag),
+        DurHead::Bound(_) => Some(Rest::Two(Line::DurationName, Line::Expr)),
+        DurHead::Unknown => None,
+    }
+}
+
+/// The same below a tag.
+fn untagged_rest(head: DurHead) -> Option<Rest>
+    ensures { result ≡ untagged_rest head }
+{
+    match head {
+        DurHead::LeftOut => Some(Rest::Skipped),
+        DurHead::And => Some(Rest::ManyUntagged),
+        DurHead::Bound(_) => Some(Rest::Two(Line::DurationName, Line::Expr)),
+        DurHead::At | DurHead::Unknown => None,
+    }
+}
+
 fn is_duration(word: &[u8], kind: TokenKind) -> bool
     ensures { result ≡ is_duration word.now kind }
 {
@@ -136,13 +162,16 @@ pub(crate) fn stands(line: Line, word: &[u8], kind: TokenKind) -> bool
         Line::Number => is_number(kind),
         Line::Expr => is_name(kind) || is_number(kind),
         Line::EffectExpr => is_name(kind) || is_number(kind) || is_duration(word, kind),
+        Line::DurationName => is_duration(word, kind),
         Line::VariableList
         | Line::Cond
         | Line::Denied
         | Line::Cmp
         | Line::Tree
         | Line::Con
-        | Line::Trail => false,
+        | Line::Trail
+        | Line::Dur
+        | Line::UntaggedDur => false,
     }
 }
 
@@ -159,7 +188,9 @@ pub(crate) fn begins(line: Line, word: &[u8], kind: TokenKind) -> Option<Rest>
         Line::Tree => tree_rest(tree_head(word), kind),
         Line::Con => con_rest(con_head(word)),
         Line::Trail => trail_rest(con_head(word)),
-        Line::Term | Line::Number | Line::VariableList => None,
+        Line::Dur => dur_rest(dur_head(word)),
+        Line::UntaggedDur => untagged_rest(dur_head(word)),
+        Line::Term | Line::Number | Line::VariableList | Line::DurationName => None,
     }
 }
 
@@ -175,7 +206,7 @@ pub(crate) fn inside(line: Line) -> Option<Rest>
     ensures { result ≡ inside line }
 {
     match line {
-        Line::Term | Line::Number => None,
+        Line::Term | Line::Number | Line::DurationName => None,
         Line::VariableList => Some(Rest::Typed(Listed::Variables)),
         Line::Expr
         | Line::EffectExpr
@@ -184,6 +215,8 @@ pub(crate) fn inside(line: Line) -> Option<Rest>
         | Line::Cmp
         | Line::Tree
         | Line::Con
-        | Line::Trail => Some(Rest::Whole(line)),
+        | Line::Trail
+        | Line::Dur
+        | Line::UntaggedDur => Some(Rest::Whole(line)),
     }
 }

@@ -1,7 +1,7 @@
 //! The readers of parts of a text.
 
 ghost use Rattle.std.specs.Prelude.{◌≡◌, ◌<◌, [], length};
-ghost use Rattle.pddl_terms.specs.declared.grammar.Line.TheVariants.{Cond, Tree, EffectExpr, Con};
+ghost use Rattle.pddl_terms.specs.declared.grammar.Line.TheVariants.{Cond, Tree, EffectExpr, Con, Dur};
 ghost use Rattle.pddl_terms.specs.Content.{content_at};
 ghost use Rattle.pddl_terms.specs.Shape.{wrong_item};
 ghost use Rattle.pddl_terms.specs.Typed.{groups};
@@ -9,17 +9,19 @@ ghost use Rattle.pddl_terms.specs.Conditions.{cond_tree};
 ghost use Rattle.pddl_terms.specs.Expressions.{expr_tree};
 ghost use Rattle.pddl_terms.specs.Formulas.{fact_tree};
 ghost use Rattle.pddl_terms.specs.Constraints.{con_tree};
+ghost use Rattle.pddl_terms.specs.Durations.{dur_tree};
 ghost use Rattle.pddl_terms.specs.Readings.{Reads, listed, wrong_typed};
 
 use crate::conditions::cond_tree;
 use crate::constraints::con_tree;
+use crate::durations::dur_tree;
 use crate::expressions::expr_tree;
 use crate::faults::{Kind, PddlFault};
 use crate::formulas::fact_tree;
 use crate::grammar::{Line, Listed, Rest};
 use crate::items::kind_ahead;
 use crate::shape::{first_wrong, first_wrong_item};
-use crate::trees::{ConForm, CondTree, ExprTree, FactForm, Group};
+use crate::trees::{ConForm, CondTree, DurTree, ExprTree, FactForm, Group};
 use crate::typed::groups;
 use sexpr_text::{Forms, TokenKind};
 use sqlite_items::Items;
@@ -59,6 +61,18 @@ pub fn read_expression(alloc: Global, forms: &Forms, at: u32) -> Result<ExprTree
         return Err(PddlFault::At(Kind::Shape, place));
     }
     Ok(expr_tree(alloc, forms, at)?)
+}
+
+/// Reads the duration that stands at a token: the line `dur` of the grammar.
+pub fn read_duration(alloc: Global, forms: &Forms, at: u32) -> Result<DurTree, PddlFault>
+    requires { at < length forms.now.tokens }
+    ensures { Reads (wrong_item Dur (content_at forms.now at)) (dur_tree (content_at forms.now at)) result }
+{
+    let at = at as usize;
+    if let Some(place) = first_wrong_item(forms, at, Line::Dur) {
+        return Err(PddlFault::At(Kind::Shape, place));
+    }
+    Ok(dur_tree(alloc, forms, at)?)
 }
 
 /// Reads the constraint that stands at a token: the line `con` of the grammar.

@@ -9,6 +9,7 @@ ghost use Rattle.pddl_terms.specs.Shape.{
   takes_line,
   takes,
   enters_line,
+  enters_untagged,
   enters,
   leaves,
   wrong,
@@ -32,7 +33,8 @@ fn may_end(rest: Rest) -> bool
         | Rest::Maybe(_)
         | Rest::Skipped
         | Rest::Typed(_)
-        | Rest::TypedMore(_) => true,
+        | Rest::TypedMore(_)
+        | Rest::ManyUntagged => true,
         Rest::One(_)
         | Rest::Two(_, _)
         | Rest::OneAndSome(_)
@@ -42,7 +44,9 @@ fn may_end(rest: Rest) -> bool
         | Rest::Sides
         | Rest::Side(_)
         | Rest::OptionalName(_)
-        | Rest::EndAnd(_) => false,
+        | Rest::EndAnd(_)
+        | Rest::Tag
+        | Rest::OneUntagged => false,
     }
 }
 
@@ -117,6 +121,10 @@ fn takes(rest: Rest, word: &[u8], kind: TokenKind, ahead: TokenKind) -> Option<R
         Rest::Side(plain) => other_side(plain, kind),
         Rest::OptionalName(line) => only_if(is_name(kind), Rest::One(line)),
         Rest::EndAnd(line) => only_if(same_word(word, b"end"), Rest::One(line)),
+        Rest::Tag => only_if(
+            same_word(word, b"start") || same_word(word, b"end"),
+            Rest::OneUntagged,
+        ),
         Rest::Nothing
         | Rest::One(_)
         | Rest::Two(_, _)
@@ -124,7 +132,9 @@ fn takes(rest: Rest, word: &[u8], kind: TokenKind, ahead: TokenKind) -> Option<R
         | Rest::OneAndSome(_)
         | Rest::Some(_)
         | Rest::OneAndMaybe(_)
-        | Rest::Maybe(_) => takes_line(wanted(rest), word, kind, after(rest)),
+        | Rest::Maybe(_)
+        | Rest::OneUntagged
+        | Rest::ManyUntagged => takes_line(wanted(rest), word, kind, after(rest)),
     }
 }
 
@@ -137,6 +147,17 @@ fn enters_line(line: Option<Line>) -> Option<Rest>
     }
 }
 
+/// What a list below a tag may hold, if it has no tag.
+fn enters_untagged(first: &[u8]) -> Option<Rest>
+    ensures { result ≡ enters_untagged first.now }
+{
+    if same_word(first, b"at") {
+        None
+    } else {
+        Some(Rest::Whole(Line::UntaggedDur))
+    }
+}
+
 #[tactic(auto, unfolding(crate::specs::Shape::enters))]
 fn enters(rest: Rest, first: &[u8]) -> Option<Rest>
     ensures { result ≡ enters rest first.now }
@@ -146,6 +167,8 @@ fn enters(rest: Rest, first: &[u8]) -> Option<Rest>
         Rest::TypeName(_) => only_if(is_left_out(first), Rest::Skipped),
         Rest::Sides => Some(Rest::Whole(Line::Expr)),
         Rest::Side(_) => Some(Rest::Whole(Line::Expr)),
+        Rest::OneUntagged => enters_untagged(first),
+        Rest::ManyUntagged => enters_untagged(first),
         Rest::Nothing
         | Rest::Whole(_)
         | Rest::Typed(_)
@@ -158,7 +181,8 @@ fn enters(rest: Rest, first: &[u8]) -> Option<Rest>
         | Rest::OneAndMaybe(_)
         | Rest::Maybe(_)
         | Rest::OptionalName(_)
-        | Rest::EndAnd(_) => enters_line(wanted(rest)),
+        | Rest::EndAnd(_)
+        | Rest::Tag => enters_line(wanted(rest)),
     }
 }
 
@@ -171,6 +195,7 @@ fn leaves(rest: Rest) -> Rest
         Rest::TypeName(of) => Rest::Typed(of),
         Rest::Sides => Rest::Side(false),
         Rest::Side(_) => Rest::Nothing,
+        Rest::ManyUntagged => Rest::ManyUntagged,
         Rest::Nothing
         | Rest::Whole(_)
         | Rest::Typed(_)
@@ -183,7 +208,9 @@ fn leaves(rest: Rest) -> Rest
         | Rest::OneAndMaybe(_)
         | Rest::Maybe(_)
         | Rest::OptionalName(_)
-        | Rest::EndAnd(_) => after(rest),
+        | Rest::EndAnd(_)
+        | Rest::Tag
+        | Rest::OneUntagged => after(rest),
     }
 }
 

@@ -3,16 +3,19 @@
 ghost use Rattle.std.specs.Prelude.{◌<◌, length, IfOk};
 
 use crate::{
-    CondTree, Kind, PddlFault, read_condition, read_constraint, read_expression, read_tree,
-    read_typed,
+    CondTree, Kind, PddlFault, read_condition, read_constraint, read_duration, read_expression,
+    read_tree, read_typed,
 };
 use sexpr_text::{Forms, read_forms};
 use std::alloc::Global;
 
-/// The tokens of a text that has some.
+/// The tokens of a short text that has two at least.
 fn forms_of(alloc: Global, text: &[u8]) -> Result<Forms, PddlFault>
     ensures { IfOk result (λ forms. 1 < length forms.tokens) }
 {
+    if text.len() > 100 {
+        return Err(PddlFault::Memory);
+    }
     let forms = match read_forms(alloc, text) {
         Ok(forms) => forms,
         Err(fault) => return Err(PddlFault::Lex(fault)),
@@ -54,6 +57,12 @@ fn expression(alloc: Global, text: &[u8]) -> Result<(), PddlFault> {
 fn constraint(alloc: Global, text: &[u8]) -> Result<(), PddlFault> {
     let forms = forms_of(alloc, text)?;
     read_constraint(alloc, &forms, 0)?;
+    Ok(())
+}
+
+fn duration(alloc: Global, text: &[u8]) -> Result<(), PddlFault> {
+    let forms = forms_of(alloc, text)?;
+    read_duration(alloc, &forms, 0)?;
     Ok(())
 }
 
@@ -150,6 +159,27 @@ fn constraints_have_their_places(rt: HostRuntime) {
     ];
     for (text, place) in rows {
         assert_eq!(rt; place_of(constraint(rt.alloc(), text)), place);
+    }
+}
+
+#[test]
+fn durations_have_their_places(rt: HostRuntime) {
+    let rows = [
+        (
+            b"(and (>= ?duration 1) (at END (<= ?DURATION (f ?x))))".as_slice(),
+            None,
+        ),
+        (b"(at start (and (when) (= ?duration f)))", None),
+        (b"()", Some(1)),
+        (b"(< ?duration 5)", Some(1)),
+        (b"(= ?x 5)", Some(3)),
+        (b"(= ?duration ?duration)", Some(13)),
+        (b"(at all (= ?duration 1))", Some(4)),
+        (b"(at start (at end (= ?duration 1)))", Some(10)),
+        (b"(at start (and (at end (= ?duration 1))))", Some(15)),
+    ];
+    for (text, place) in rows {
+        assert_eq!(rt; place_of(duration(rt.alloc(), text)), place);
     }
 }
 

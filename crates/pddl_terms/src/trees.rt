@@ -68,6 +68,16 @@ pub enum ExprTree {
     TimeCost(u32, Name),
 }
 
+/// The bounds of a duration. Those below no tag are read at the start.
+#[derive(Drop)]
+pub enum DurTree {
+    And(u32, Items<DurTree>),
+    AtStart(u32, Boxed<DurTree>),
+    AtEnd(u32, Boxed<DurTree>),
+    Bound(u32, Comparison, ExprTree),
+    LeftOut(u32),
+}
+
 /// A side of an `=`: a variable, a bare name (an object, or a fluent without terms), or another expression.
 #[derive(Drop)]
 pub enum Side {
