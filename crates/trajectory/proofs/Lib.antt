@@ -1,0 +1,3 @@
+pub mod Following
+pub mod Heights
+pub mod Truths
