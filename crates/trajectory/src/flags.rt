@@ -78,12 +78,6 @@ pub fn keep_first(kept: Option<u32>, holds: bool, number: u32) -> Option<u32>
 {
     match kept {
         Some(first) => Some(first),
-        None => {
-            if holds {
-                Some(number)
-            } else {
-                None
-            }
-        }
+        None => { if holds { Some(number) } else { None } }
     }
 }
