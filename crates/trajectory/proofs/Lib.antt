@@ -1,5 +1,7 @@
+pub mod Covering
 pub mod FirstStates
 pub mod Following
 pub mod Heights
+pub mod Times
 pub mod Truths
 pub mod Verdicts

@@ -1,9 +1,10 @@
 -- An automaton that has followed some states gives the verdict on them, and what the verdict tells.
-use Rattle.std.proofs.Common.{◌≡◌, refl, sym, ap, ◌∙◌, ℕ, suc, ◌+◌, Bool, true, false, ◌&&◌, ◌||◌, List, [], ◌∷◌, ◌++◌, length, add-one, arith}
+use Rattle.std.proofs.Common.{◌≡◌, refl, sym, ap, ◌∙◌, ℕ, suc, ◌+◌, Bool, true, false, ◌&&◌, ◌||◌, List, [], ◌∷◌, ◌++◌, map, length, arith}
 use Rattle.std.specs.Prelude.{Option, Some, None, position, if◌then◌else◌}
 use Rattle.std.specs.List.{AllByRecursion, list_any}
 use Rattle.std.specs.Option.{option_map}
 use Rattle.std.proofs.lemmas.List.{length_push}
+use Rattle.std.proofs.lemmas.List.Elements.{recursion_from_All}
 use Rattle.rational.specs.Rational.{ℚ, ◌≤ℚ◌}
 use Rattle.rational.proofs.Inequalities.{le_trans}
 use Rattle.task_types.specs.declared.constraints.Trail.{Trail}
@@ -22,7 +23,7 @@ use Rattle.trajectory.specs.declared.flags.Flags.{Flags}
 use Rattle.trajectory.specs.Passing.{first_flags, next_flags, flags_after, kept_or_now}
 use Rattle.trajectory.specs.Following.{Follows}
 use Rattle.trajectory.specs.Verdicts.{verdict_by, verdict_on, timed_or_broken}
-use Rattle.trajectory.specs.Laws.{NeverFall, tells_met, VerdictsTellWhatIsMet}
+use Rattle.trajectory.specs.Laws.{NeverFall, tells_met}
 use Rattle.trajectory.proofs.FirstStates.{position-cons, position-append}
 use Rattle.trajectory.proofs.Following.{flags_after-append, met-along}
 
@@ -93,7 +94,7 @@ module _ (a : Moment → Bool) (t : ℚ) where
 
   first_is_soon : (ms : Trace) → NeverFall ms → list_any (λ m. a m && (m.time ≤? t)) ms ≡ is_soon t ms (position a ms)
   first_is_soon [] h = refl
-  first_is_soon (m ∷ ms) h = go (a m) (m.time ≤? t) refl (first_is_soon ms h.1) ∙ ap (is_soon t (m ∷ ms)) (sym (position-cons a m ms))
+  first_is_soon (m ∷ ms) h = go (a m) (m.time ≤? t) refl (first_is_soon ms (λ i j d l k. h (suc i) (suc j) d (omega arith) (omega arith))) ∙ ap (is_soon t (m ∷ ms)) (sym (position-cons a m ms))
     where
       shifted : (o : Option ℕ) → is_soon t ms o ≡ is_soon t (m ∷ ms) (option_map suc o)
       shifted None = refl
@@ -102,7 +103,7 @@ module _ (a : Moment → Bool) (t : ℚ) where
       go : (b c : Bool) → (m.time ≤? t) ≡ c → list_any (λ m. a m && (m.time ≤? t)) ms ≡ is_soon t ms (position a ms)
           → ((b && c) || list_any (λ m. a m && (m.time ≤? t)) ms) ≡ is_soon t (m ∷ ms) (if b then Some 0 else option_map suc (position a ms))
       go true true e g = sym e
-      go true false e g = none_soon m.time ms h.0 e ∙ sym e
+      go true false e g = none_soon m.time ms (recursion_from_All (λ (n : Moment). m.time ≤ℚ n.time) ms (λ j d l. h 0 (suc j) d (omega arith) (omega arith))) e ∙ sym e
       go false c e g = g ∙ shifted (position a ms)
 
 tells_timed : (c : Trail) (states : Trace) (o : Option ℕ) → is_soon c.moment states o ≡ tells_met c states (timed_or_broken o)
@@ -113,7 +114,7 @@ tells_kept : (c : Trail) (states : Trace) (b : Bool) → b ≡ tells_met c state
 tells_kept c states true = refl
 tells_kept c states false = refl
 
-pub verdict_tells : VerdictsTellWhatIsMet
+pub verdict_tells : (c : Trail) (states : Trace) → NeverFall states → met c states ≡ tells_met c states (verdict_on c states)
 unfolding first_state
 verdict_tells c states h = go c.kind refl
   where
@@ -128,3 +129,35 @@ verdict_tells c states h = go c.kind refl
     go SometimeAfter e = tells_kept c states (met c states)
     go SometimeBefore e = tells_kept c states (met c states)
     go AtEnd e = tells_kept c states (met c states)
+
+-- ---- a verdict goes by the facts alone
+module _ {M N : Type 0} (f : M → N) (a b : N → Bool) where
+  flags_after-map : (kind : TrailKind) (s : Flags) (ms : List M) → flags_after kind (λ m. a (f m)) (λ m. b (f m)) s ms ≡ flags_after kind a b s (map f ms)
+  flags_after-map kind s [] = refl
+  flags_after-map kind s (m ∷ ms) = flags_after-map kind (next_flags kind (a (f m)) (b (f m)) s) ms
+
+  position-map : (ms : List M) → position (λ m. a (f m)) ms ≡ position a (map f ms)
+  position-map [] = refl
+  position-map (m ∷ ms) = position-cons (λ m. a (f m)) m ms ∙ ap (λ o. if a (f m) then Some 0 else option_map suc o) (position-map ms) ∙ sym (position-cons a (f m) (map f ms))
+
+module _ (c : Trail) where
+  met-facts : (xs : Trace) → ¬ (c.kind ≡ Within) → met c xs ≡ (flags_after c.kind (tree_holds c.first) (tree_holds c.second) (first_flags c.kind) (map (λ (m : Moment). m.facts) xs)).met
+  met-facts xs n = constraints_along.along c xs
+      ∙ sym (met-along (λ (m : Moment). tree_holds c.first m.facts) (λ (m : Moment). tree_holds c.second m.facts) c.kind (λ (m : Moment). m.time ≤? c.moment) xs n)
+      ∙ ap (λ (s : Flags). s.met) (flags_after-map (λ (m : Moment). m.facts) (tree_holds c.first) (tree_holds c.second) c.kind (first_flags c.kind) xs)
+
+  pub verdict-facts : (xs ys : Trace) → map (λ (m : Moment). m.facts) xs ≡ map (λ (m : Moment). m.facts) ys → verdict_on c xs ≡ verdict_on c ys
+  unfolding first_state
+  verdict-facts xs ys e = go c.kind refl
+    where
+      same : ¬ (c.kind ≡ Within) → (if met c xs then Met else Broken) ≡ (if met c ys then Met else Broken)
+      same n = ap (λ b. if b then Met else Broken) (met-facts xs n ∙ ap (λ (fs : List (ℕ → Bool)). (flags_after c.kind (tree_holds c.first) (tree_holds c.second) (first_flags c.kind) fs).met) e ∙ sym (met-facts ys n))
+
+      go : (kind : TrailKind) → c.kind ≡ kind → verdict_by kind (met c xs) (first_state c.first xs) ≡ verdict_by kind (met c ys) (first_state c.first ys)
+      go Always e' = same (λ w. let d : Always ≡ Within = sym e' ∙ w in cc)
+      go Sometime e' = same (λ w. let d : Sometime ≡ Within = sym e' ∙ w in cc)
+      go Within e' = ap timed_or_broken (position-map (λ (m : Moment). m.facts) (tree_holds c.first) (tree_holds c.second) xs ∙ ap (position (tree_holds c.first)) e ∙ sym (position-map (λ (m : Moment). m.facts) (tree_holds c.first) (tree_holds c.second) ys))
+      go AtMostOnce e' = same (λ w. let d : AtMostOnce ≡ Within = sym e' ∙ w in cc)
+      go SometimeAfter e' = same (λ w. let d : SometimeAfter ≡ Within = sym e' ∙ w in cc)
+      go SometimeBefore e' = same (λ w. let d : SometimeBefore ≡ Within = sym e' ∙ w in cc)
+      go AtEnd e' = same (λ w. let d : AtEnd ≡ Within = sym e' ∙ w in cc)

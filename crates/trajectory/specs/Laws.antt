@@ -1,18 +1,23 @@
--- Believed: a law that shows the verdict to be the one that is meant.
-use Rattle.std.specs.Prelude.{ℕ, ◌≡◌, Bool, true, false, List, [], ◌∷◌}
-use Rattle.std.specs.List.{AllByRecursion}
-use Rattle.rational.specs.Rational.{ℚ, ◌≤ℚ◌}
+-- Believed: laws that show the verdict to be the one that is meant, and what its conditions ask of a task.
+use Rattle.std.specs.Prelude.{ℕ, ◌≡◌, ◌≤◌, Bool, true, false, IsTrue, List, map, length, All}
+use Rattle.std.specs.List.{AllPairs}
+use Rattle.rational.specs.Rational.{zeroℚ, ◌≤ℚ◌}
 use Rattle.task_types.specs.declared.constraints.Trail.{Trail}
+use Rattle.task_types.specs.declared.formulas.FactTree.{FactTree}
+use Rattle.task_types.specs.declared.parts.TaskParts.{TaskParts}
 use Rattle.task_types.specs.Tests.{◌≤?◌}
-use Rattle.task_types.specs.Trace.{Trace, at, met}
+use Rattle.task_types.specs.Plan.{Plan, steps}
+use Rattle.task_types.specs.Trace.{Trace, at, met, trace}
+use Rattle.task_types.specs.Touch.{tree_facts, trail_facts}
+use Rattle.task_types.specs.WellMade.{tree_fits, trail_fits}
 use Rattle.trajectory.specs.declared.automaton.TrailEnd.{TrailEnd}
 use Rattle.trajectory.specs.declared.automaton.TrailEnd.TheVariants.{Met, Broken, Timed}
+use Rattle.trajectory.specs.Facts.{AreCovered}
 use Rattle.trajectory.specs.Verdicts.{verdict_on}
 
 -- no state comes before an earlier one
 abbrev pub NeverFall : Trace → Type 0
-NeverFall [] = Unit {0}
-NeverFall (m ∷ ms) = AllByRecursion (λ n. m.time ≤ℚ n.time) ms × NeverFall ms
+NeverFall states = AllPairs (λ m n. m.time ≤ℚ n.time) states
 
 -- What a verdict tells of a trace: that it meets the constraint, that it doesn't, or that it does where this state
 -- comes no later than the constraint's moment.
@@ -21,6 +26,14 @@ tells_met c states Met = true
 tells_met c states Broken = false
 tells_met c states (Timed k) = at states k (λ m. m.time ≤? c.moment)
 
--- A trace whose times never fall meets a constraint exactly where the verdict tells so.
-abbrev pub VerdictsTellWhatIsMet : Type 0
-VerdictsTellWhatIsMet = (c : Trail) (states : Trace) → NeverFall states → met c states ≡ tells_met c states (verdict_on c states)
+-- A trace whose times never fall meets a constraint exactly where the verdict tells so. The times of a plan's trace
+-- never fall where no step comes before time 0. A verdict goes by the facts alone.
+pub record VerdictsTellWhatIsMet : Type 0 where
+  pub met : (c : Trail) (states : Trace) → NeverFall states → met c states ≡ tells_met c states (verdict_on c states)
+  pub plans : (task : TaskParts) (plan : Plan) → All (λ s. zeroℚ ≤ℚ s.time) (steps task plan) → NeverFall (trace task plan)
+  pub facts : (c : Trail) (xs ys : Trace) → map (λ m. m.facts) xs ≡ map (λ m. m.facts) ys → verdict_on c xs ≡ verdict_on c ys
+
+-- A list with a place for each fact of a task covers each formula and each constraint that fits the task.
+pub record TasksAreCovered : Type 0 where
+  pub formulas : (task : TaskParts) (formula : FactTree) (bs : List Bool) → length task.facts ≤ length bs → IsTrue (tree_fits task formula) → AreCovered (tree_facts formula) bs
+  pub constraints : (task : TaskParts) (c : Trail) (bs : List Bool) → length task.facts ≤ length bs → IsTrue (trail_fits task c) → AreCovered (trail_facts c) bs
