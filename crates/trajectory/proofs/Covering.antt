@@ -1,18 +1,17 @@
 -- A list with a place for each fact of a task covers what fits the task.
-use Rattle.std.proofs.Common.{◌≡◌, refl, sym, ap, subst, ◌∙◌, ℕ, ◌<◌, ◌≤◌, Bool, true, ◌&&◌, nat_lt, List, [], ◌∷◌, ◌++◌, map, length, arith}
+use Rattle.std.proofs.Common.{◌≡◌, refl, sym, ap, subst, ◌∙◌, ℕ, ◌<◌, ◌≤◌, Bool, true, ◌&&◌, nat_lt, List, [], ◌∷◌, map, length, arith}
 use Rattle.std.specs.List.{All, AllByRecursion, list_all, flat_map}
 use Rattle.std.proofs.lemmas.List.Elements.{All-nil, All-cons, All-append, All-same, All-weaker}
 use Rattle.std.proofs.lemmas.Bool.Decides.{nat_tests}
 use Rattle.basics.proofs.Bools.{and_left, and_right}
 use Rattle.task_types.specs.declared.conditions.Literal.{Literal}
-use Rattle.task_types.specs.declared.constraints.Trail.{Trail}
 use Rattle.task_types.specs.declared.formulas.FactTree.{FactTree, fold-FactTree, fold-roll-FactTree, ind-FactTree, map-FactTree, roll-FactTree}
 use Rattle.task_types.specs.declared.formulas.FactTree.TheOpen.{FactTree-F}
 use Rattle.task_types.specs.declared.formulas.FactTree.TheVariants as tree
 use Rattle.task_types.specs.declared.formulas.FactTree.TheVariants.{rolls-True, rolls-Is, rolls-Not, rolls-And, rolls-Or}
 use Rattle.task_types.specs.declared.parts.TaskParts.{TaskParts}
-use Rattle.task_types.specs.Touch.{tree_facts, trail_facts}
-use Rattle.task_types.specs.WellMade.{is_short, parts_fit, tree_fits, trail_fits}
+use Rattle.task_types.specs.Touch.{tree_facts}
+use Rattle.task_types.specs.WellMade.{is_short, parts_fit, tree_fits}
 use Rattle.task_types.proofs.FormulaFacts.{tree_facts-true, tree_facts-is, tree_facts-not, tree_facts-and, tree_facts-or}
 use Rattle.trajectory.specs.Facts.{AreCovered}
 use Rattle.trajectory.specs.Laws.{TasksAreCovered}

@@ -1,5 +1,5 @@
 -- The height of a formula, which falls at each step down.
-use Rattle.std.proofs.Common.{◌≡◌, refl, sym, ap, ◌∙◌, ℕ, suc, zero, ◌<◌, ◌≤◌, max, List, [], ◌∷◌, map, length, get_or, arith}
+use Rattle.std.proofs.Common.{◌≡◌, sym, ap, ◌∙◌, ℕ, suc, zero, ◌<◌, ◌≤◌, max, List, [], ◌∷◌, map, length, get_or, arith}
 use Rattle.task_types.specs.declared.formulas.FactTree.{FactTree, fold-FactTree, fold-roll-FactTree}
 use Rattle.task_types.specs.declared.formulas.FactTree.TheOpen.{FactTree-F}
 use Rattle.task_types.specs.declared.formulas.FactTree.TheVariants as tree

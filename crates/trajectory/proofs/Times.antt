@@ -1,6 +1,6 @@
 -- The times of a plan's trace never fall where no step comes before time 0.
-use Rattle.std.proofs.Common.{◌≡◌, refl, sym, ap, subst, ◌∙◌, ℕ, zero, suc, ◌+◌, ◌<◌, List, [], ◌∷◌, map, length, get_or, arith}
-use Rattle.std.specs.Prelude.{slice_index_or, Contains}
+use Rattle.std.proofs.Common.{◌≡◌, sym, ap, subst, ℕ, zero, suc, ◌<◌, List, [], ◌∷◌, map, length, get_or, arith}
+use Rattle.std.specs.Prelude.{slice_index_or}
 use Rattle.std.specs.List.{All}
 use Rattle.std.proofs.lemmas.List.FromFn.{get_or-map-range_with_len, length-map-range_with_len}
 use Rattle.std.proofs.lemmas.List.Elements.{All-from_recursion, All-map, All-contains, Contains-get_or}
@@ -9,7 +9,7 @@ use Rattle.rational.proofs.Order.{lt_le}
 use Rattle.task_types.specs.declared.parts.TaskParts.{TaskParts}
 use Rattle.task_types.specs.Sets.{numbers}
 use Rattle.task_types.specs.Plan.{Plan, Step, steps, happenings}
-use Rattle.task_types.specs.Course.{initial, state_after, time_of, count}
+use Rattle.task_types.specs.Course.{state_after, time_of, count}
 use Rattle.task_types.specs.Trace.{Trace, Moment, trace}
 use Rattle.task_types.specs.Laws.{Ascends}
 use Rattle.task_types.proofs.Happenings.{one_list}

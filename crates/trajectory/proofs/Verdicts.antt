@@ -17,8 +17,7 @@ use Rattle.task_types.specs.Laws.{kept_along}
 use Rattle.task_types.proofs.Comparisons.{le_out, le_in}
 use Rattle.task_types.proofs.Sayings.{constraints_along}
 use Rattle.trajectory.specs.declared.automaton.Automaton.{Automaton}
-use Rattle.trajectory.specs.declared.automaton.TrailEnd.{TrailEnd}
-use Rattle.trajectory.specs.declared.automaton.TrailEnd.TheVariants.{Met, Broken, Timed}
+use Rattle.trajectory.specs.declared.automaton.TrailEnd.TheVariants.{Met, Broken}
 use Rattle.trajectory.specs.declared.flags.Flags.{Flags}
 use Rattle.trajectory.specs.Passing.{first_flags, next_flags, flags_after, kept_or_now}
 use Rattle.trajectory.specs.Following.{Follows}

@@ -1,4 +1,4 @@
--- Believed: which constraint an automaton follows, and along which states; `new`, `step` and `verdict` say what it means.
+-- Believed: which constraint an automaton follows, and along which states; its calls alone say what that means.
 use Rattle.std.specs.Prelude.{ℕ, ◌≡◌, length}
 use Rattle.task_types.specs.declared.constraints.Trail.{Trail}
 use Rattle.task_types.specs.State.{tree_holds}
@@ -14,7 +14,9 @@ constraint_of automaton = automaton.trail
 abbrev pub states_taken : Automaton → ℕ
 states_taken automaton = automaton.taken
 
--- An automaton has followed its constraint along these states: it is as it is after them. Their times don't count.
+-- An automaton has followed its constraint along these states, so it remembers of them what one pass leaves. Nobody
+-- needs to trust this record: only `new` and `step` give it, and what it is good for are the clauses of `verdict` and
+-- `first_step`. The times of the states are free.
 pub record Follows (automaton : Automaton) (states : Trace) : Type 0 where
   pub taken : automaton.taken ≡ length states
   pub first : automaton.first ≡ first_state automaton.trail.first states

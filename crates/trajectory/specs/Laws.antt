@@ -1,5 +1,5 @@
 -- Believed: laws that show the verdict to be the one that is meant, and what its conditions ask of a task.
-use Rattle.std.specs.Prelude.{ℕ, ◌≡◌, ◌≤◌, Bool, true, false, IsTrue, List, map, length, All}
+use Rattle.std.specs.Prelude.{◌≡◌, ◌≤◌, Bool, true, false, IsTrue, List, map, length, All}
 use Rattle.std.specs.List.{AllPairs}
 use Rattle.rational.specs.Rational.{zeroℚ, ◌≤ℚ◌}
 use Rattle.task_types.specs.declared.constraints.Trail.{Trail}

@@ -1,4 +1,4 @@
--- Private: how the flags of an automaton change along the states.
+-- Believed: what an automaton remembers of the states so far, of which nothing speaks but `Follows`.
 use Rattle.std.specs.Prelude.{ℕ, Bool, true, false, not, ◌&&◌, ◌||◌, if◌then◌else◌, List, [], ◌∷◌, Option, Some, None}
 use Rattle.task_types.specs.declared.constraints.TrailKind.{TrailKind}
 use Rattle.task_types.specs.declared.constraints.TrailKind.TheVariants.{Always, Sometime, Within, AtMostOnce, SometimeAfter, SometimeBefore, AtEnd}

@@ -15,5 +15,5 @@ facts_are x y first second parts e f g h k = tree_facts-or parts ∙ ap (flat_ma
 pub returns : goal.returns
 returns c =
     let whole : c.push-2.new.self ≡ tree.Not c.in_ok-new.field-0 ∷ c.fact-2.result ∷ [] = (c.in_ok-push-2.ensures {u = tt}).ok
-        ∙ ap (λ (ps : List FactTree). ps ++ c.fact-2.result ∷ []) ((c.in_ok-push.ensures {u = tt}).ok ∙ ap (λ (ps : List FactTree). ps ++ tree.Not c.in_ok-new.field-0 ∷ []) c.new-parts.ensures) in
+    ∙ ap (λ (ps : List FactTree). ps ++ c.fact-2.result ∷ []) ((c.in_ok-push.ensures {u = tt}).ok ∙ ap (λ (ps : List FactTree). ps ++ tree.Not c.in_ok-new.field-0 ∷ []) c.new-parts.ensures) in
     facts_are c.in_ok-new.field-0 c.fact-2.result (tree.Not c.in_ok-new.field-0) c.fact-2.result c.push-2.new.self whole refl ((c.in_ok-new.ensures {u = tt}) ∙ c.fact.ensures) refl c.fact-2.ensures

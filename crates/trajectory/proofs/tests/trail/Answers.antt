@@ -1,5 +1,4 @@
 use Rattle.std.proofs.Common.{◌≡◌, ◌∙◌, ap, ◌∷◌, [], ◌++◌, List, ℕ, true}
-use Rattle.task_types.specs.declared.formulas.FactTree.TheVariants as tree
 use Rattle.task_types.specs.Touch.{tree_facts}
 use Rattle.task_types.proofs.FormulaFacts.{tree_facts-is}
 use Rattle.trajectory.proofs.tests.trail.Goals as goal
