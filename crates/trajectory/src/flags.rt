@@ -5,7 +5,8 @@ ghost use Rattle.trajectory.specs.Passing.{first_flags, next_flags, kept_or_now}
 
 use task_types::TrailKind;
 
-/// Whether the states so far meet the constraint, and two facts of the past that some kinds need.
+/// What is remembered of the states so far: whether they meet the constraint; for an at-most-once, whether its formula
+/// held (`seen`) and then failed (`over`); for a sometime-before, whether its second formula held (`seen`).
 #[derive(Clone, Copy, Drop)]
 pub struct Flags {
     pub met: bool,
