@@ -1,1 +1,4 @@
 pub mod Meetings
+pub mod MoreSteps
+pub mod OpenStarts
+pub mod RunningActions

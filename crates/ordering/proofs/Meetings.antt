@@ -1,7 +1,7 @@
 -- The strongest link of two rows of touches, taken in one pass, is the link of their snap actions.
-use Rattle.std.proofs.Common.{◌≡◌, refl, sym, ap, ◌∙◌, ℕ, zero, suc, ◌+◌, ◌<◌, ◌≤◌, Bool, true, false, ◌&&◌, ◌||◌, List, [], ◌∷◌, ◌++◌, length, get_or, drop, arith, append_assoc, add-one, drop-cons, inl, inr}
-use Rattle.std.specs.Prelude.{if◌then◌else◌, nat_le, ◌==◌, ◌⊎◌, ◌≢◌}
-use Rattle.std.specs.List.{list_any, list_all, flat_map, enumerate_from}
+use Rattle.std.proofs.Common.{◌≡◌, refl, sym, ◌∙◌, ℕ, zero, suc, ◌+◌, ◌<◌, ◌≤◌, Bool, true, false, ◌&&◌, ◌||◌, List, [], ◌∷◌, ◌++◌, length, get_or, drop, arith, append_assoc, add-one, drop-cons}
+use Rattle.std.specs.Prelude.{if◌then◌else◌, ◌==◌, ◌≢◌}
+use Rattle.std.specs.List.{list_any, flat_map, enumerate_from}
 use Rattle.std.proofs.Math.ListN.{drop_of_length-le}
 use Rattle.std.proofs.lemmas.Bool.Decides.{nat_tests}
 use Rattle.task_types.specs.declared.actions.Snap.{Snap}

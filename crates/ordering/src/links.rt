@@ -7,8 +7,9 @@ ghost use Rattle.task_types.specs.Plan.{snap_of};
 ghost use Rattle.task_types.specs.Touch.{is_timed};
 ghost use Rattle.ordering.specs.Meetings.{Ascend, AreFrom, stronger, link_of_touches, link_with, strongest_link};
 
+use crate::snaps::has_moment;
 use exact_lin::{Id, SnapId, TokenId};
-use task_types::{Link, SnapKind, Task, Touch};
+use task_types::{Link, Task, Touch};
 
 /// What two steps of these snap actions, the first before the second in the list, ask of their times: read in one pass
 /// over their touches.
@@ -31,17 +32,6 @@ fn are_timed(task: &Task, first: SnapId, second: SnapId) -> bool
         && is_timed (snap_of task.now.parts second).kind) }
 {
     has_moment(task, first) && has_moment(task, second)
-}
-
-/// Whether a snap action is that of timed initial literals.
-pub fn has_moment(task: &Task, snap: SnapId) -> bool
-    requires { snap < length task.now.parts.snaps }
-    ensures { result ≡ is_timed (snap_of task.now.parts snap).kind }
-{
-    match task.snaps()[snap.number() as usize].kind {
-        SnapKind::Timed => true,
-        SnapKind::Start | SnapKind::End | SnapKind::Instant => false,
-    }
 }
 
 // The strongest link over the tokens that two rows of touches have in common.

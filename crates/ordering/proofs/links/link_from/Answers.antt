@@ -1,4 +1,4 @@
-use Rattle.std.proofs.Common.{◌≡◌, ◌+◌, arith, sym, ap, ◌∙◌, drop}
+use Rattle.std.proofs.Common.{◌+◌, arith, sym, ap, ◌∙◌, drop}
 use Rattle.task_types.specs.declared.orderings.Link.{Link}
 use Rattle.ordering.specs.Meetings.{stronger, link_of_touches, link_with}
 use Rattle.ordering.proofs.Meetings.{rest_onward, same_entry, link_same, link_over, no_links_left, stronger-free, stronger_assoc}

@@ -1,6 +1,6 @@
-use Rattle.std.proofs.Common.{◌≡◌, sym, ap, ◌∙◌, subst}
+use Rattle.std.proofs.Common.{sym, ◌∙◌, subst}
 use Rattle.task_types.specs.Plan.{snap_of}
-use Rattle.ordering.specs.Meetings.{Ascend, strongest_link}
+use Rattle.ordering.specs.Meetings.{Ascend}
 use Rattle.ordering.proofs.Meetings.{link_free, link_by_rows, touches_ascend}
 use Rattle.ordering.proofs.links.link_of.Goals as goal
 

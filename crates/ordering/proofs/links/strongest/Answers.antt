@@ -1,4 +1,4 @@
-use Rattle.std.proofs.Common.{◌≡◌, ◌+◌, arith, sym, ap, ◌∙◌, drop}
+use Rattle.std.proofs.Common.{◌+◌, arith, sym, ap, ◌∙◌, drop}
 use Rattle.task_types.specs.declared.orderings.Link.{Link}
 use Rattle.ordering.specs.Meetings.{stronger, link_with, strongest_link}
 use Rattle.ordering.proofs.Meetings.{links_onward, no_rows_left, stronger-free, stronger_assoc}
