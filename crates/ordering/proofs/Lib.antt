@@ -1,3 +1,4 @@
+pub mod Going
 pub mod Meetings
 pub mod MoreSteps
 pub mod OpenStarts

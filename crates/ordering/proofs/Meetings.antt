@@ -120,6 +120,7 @@ links_above n m t (x ∷ xs) h a = rw (other n m x h a, links_above n m t xs h (
   where
     other : (n m : ℕ) (x : ℕ × Touch) → n < m → AreFrom m (x ∷ xs) → (n == x.0) ≡ false
     other n m x h a = grind (arith, nat_tests)
+
     later : (m : ℕ) (x : ℕ × Touch) (xs : List (ℕ × Touch)) → AreFrom m (x ∷ xs) → AreFrom m xs
     later m x xs a = grind (arith, nat_tests)
 
@@ -140,6 +141,7 @@ same_links n (z ∷ zs) us vs a h = rw (h z.0 z.1 (here n z zs a), same_links n 
   where
     here : (n : ℕ) (z : ℕ × Touch) (zs : List (ℕ × Touch)) → AreFrom n (z ∷ zs) → n ≤ z.0
     here n z zs a = grind (arith, nat_tests)
+
     later : (m : ℕ) (x : ℕ × Touch) (xs : List (ℕ × Touch)) → AreFrom m (x ∷ xs) → AreFrom m xs
     later m x xs a = grind (arith, nat_tests)
 

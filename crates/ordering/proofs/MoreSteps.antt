@@ -1,5 +1,5 @@
 -- An ordering that takes one more step, or one more pair, is built over its task.
-use Rattle.std.proofs.Common.{◌≡◌, refl, ap, subst, ◌∙◌, ℕ, zero, suc, ◌+◌, ◌<◌, ◌≤◌, Bool, true, false, cond, not, ◌&&◌, ◌==◌, List, [], ◌∷◌, ◌++◌, length, take, arith, length-append, Some, None}
+use Rattle.std.proofs.Common.{◌≡◌, refl, sym, ap, subst, ◌∙◌, ℕ, zero, suc, ◌+◌, ◌-◌, ◌<◌, ◌≤◌, Bool, true, false, cond, not, ◌&&◌, ◌==◌, List, [], ◌∷◌, ◌++◌, length, take, arith, length-append, Some, None}
 use Rattle.std.specs.Prelude.{slice_index, option_to_list, nat_lt, nat_le, if◌then◌else◌, IsTrue}
 use Rattle.std.specs.List.{list_all, count_by}
 use Rattle.std.proofs.lemmas.Bool.Decides.{nat_tests}
@@ -17,10 +17,10 @@ use Rattle.task_types.specs.Sets.{meet}
 use Rattle.task_types.specs.Touch.{is_timed}
 use Rattle.task_types.specs.Order.{Order, is_built, may_follow, running, run_on, plan_step_count, plan_step_limit, timed_count}
 use Rattle.task_types.specs.WellMade.{IsWellMade, timed_limit}
-use Rattle.ordering.specs.declared.faults.OrderFault.TheVariants.{TilOrder, Limit}
+use Rattle.ordering.specs.declared.faults.OrderFault.TheVariants.{UnknownStep, TilOrder, Cycle, Limit}
 use Rattle.ordering.specs.declared.orderings.StepOrdering.{StepOrdering}
-use Rattle.ordering.specs.Orderings.{order_of, with_step, BuiltOver}
-use Rattle.ordering.specs.Refusals.{step_refusal, exceeds_limit, push_refusal, names_step}
+use Rattle.ordering.specs.Orderings.{order_of, with_step, with_pair, BuiltOver}
+use Rattle.ordering.specs.Refusals.{step_refusal, exceeds_limit, push_refusal, names_step, pair_refusal}
 
 -- ---- what a step that isn't refused is
 
@@ -72,6 +72,7 @@ timed_within task o s w h t = go (snap_of task s).kind h t.follows
   where
     few : length task.timed ≤ timed_limit
     few = let h : nat_le (length task.timed) timed_limit ≡ true = and_left _ _ (and_left _ _ w.timed) in grind (arith, nat_tests)
+
     go : (kind : SnapKind) → is_timed kind ≡ true → may_follow task o.steps s kind ≡ true → timed_count task o.steps + 1 ≤ timed_limit
     go Start h f = cc
     go End h f = cc
@@ -85,6 +86,7 @@ plan_within task o s h t = below (plan_step_count task o.steps) (go (is_timed (s
     go a true e f = refl
     go true false e f = cc
     go false false e f = cc
+
     below : (n : ℕ) → nat_lt n plan_step_limit ≡ true → n + 1 ≤ plan_step_limit
     below n e = grind (arith, nat_tests)
 
@@ -165,6 +167,7 @@ few_more task o s h t = rw (plan_more task o.steps s) (go (is_timed (snap_of tas
   where
     le_in : (n m : ℕ) → n ≤ m → nat_le n m ≡ true
     le_in n m h = grind (arith, nat_tests)
+
     go : (b : Bool) → is_timed (snap_of task s).kind ≡ b → nat_le (plan_step_count task o.steps + cond (not b) 1 0) plan_step_limit ≡ true
     go true e = subst (λ n. nat_le n plan_step_limit ≡ true) (omega arith) h
     go false e = le_in (plan_step_count task o.steps + 1) plan_step_limit (plan_within task o s e t)
@@ -174,6 +177,75 @@ unfolding is_built
 built_more task o s b t = and_in _ _ (and_in _ _ (every_more task o.steps s ∙ and_in _ _ (and_left _ _ (and_left _ _ b)) t.follows) (few_more task o s (and_right _ _ (and_left _ _ b)) t))
     (rw (one_longer o.steps s) (all_weaker (is_forward (length o.steps)) (is_forward (suc (length o.steps))) o.extra (still_forward (length o.steps)) (and_right _ _ b)))
 
+-- ---- what is refused would not be built
+
+free : (kind : SnapKind) → step_refusal kind true ≡ None
+free Start = refl
+free End = refl
+free Instant = refl
+free Timed = refl
+
+stays_within : (task : TaskParts) (o : Order) (s : ℕ) → nat_le (plan_step_count task (o.steps ++ s ∷ [])) plan_step_limit ≡ true → exceeds_limit task o (snap_of task s).kind ≡ false
+stays_within task o s few = go (is_timed (snap_of task s).kind) (plan_step_count task o.steps) (subst (λ n. nat_le n plan_step_limit ≡ true) (plan_more task o.steps s) few)
+  where
+    go : (b : Bool) (n : ℕ) → nat_le (n + cond (not b) 1 0) plan_step_limit ≡ true → (not b && not (nat_lt n plan_step_limit)) ≡ false
+    go true n h = refl
+    go false n h = grind (arith, nat_tests)
+
+may_have_followed : (task : TaskParts) (steps : List ℕ) (s : ℕ) → every (length (steps ++ s ∷ [])) (follows task (steps ++ s ∷ [])) ≡ true → may_follow task steps s (snap_of task s).kind ≡ true
+may_have_followed task steps s h = and_right (every (length steps) (follows task steps)) (may_follow task steps s (snap_of task s).kind) (sym (every_more task steps s) ∙ h)
+
+pub step_taken : (task : TaskParts) (o : Order) (s : ℕ) → IsTrue (is_built task (with_step o s)) → push_refusal task o s ≡ None
+unfolding is_built push_refusal
+step_taken task o s b = let few : nat_le (plan_step_count task (o.steps ++ s ∷ [])) plan_step_limit ≡ true = and_right _ _ (and_left _ _ b) in
+    let each : every (length (o.steps ++ s ∷ [])) (follows task (o.steps ++ s ∷ [])) ≡ true = and_left _ _ (and_left _ _ b) in
+    rw (stays_within task o s few, may_have_followed task o.steps s each) (free (snap_of task s).kind)
+
+pair_open : (count i j : ℕ) → pair_refusal count (i + 1) (j + 1) ≡ None → (i < j) × (j < count)
+pair_open count i j e = go (names_step count (i + 1)) (names_step count (j + 1)) (nat_lt (i + 1) (j + 1)) refl refl e
+  where
+    go : (a b l : Bool) → b ≡ names_step count (j + 1) → l ≡ nat_lt (i + 1) (j + 1) → (if a && b then (if l then None else Some Cycle) else Some UnknownStep) ≡ None → (i < j) × (j < count)
+    go true true true f g e = (lt_out i j (sym g), le_out j count (and_right (nat_lt 0 (j + 1)) (nat_le (j + 1) count) (sym f)))
+      where
+        lt_out : (m n : ℕ) → nat_lt (m + 1) (n + 1) ≡ true → m < n
+        lt_out m n h = grind (arith, nat_tests)
+
+        le_out : (m n : ℕ) → nat_le (m + 1) n ≡ true → m < n
+        le_out m n h = grind (arith, nat_tests)
+    go true true false f g e = cc
+    go true false l f g e = cc
+    go false b l f g e = cc
+
+pair_named : (count i j : ℕ) → i < j → j < count → pair_refusal count (i + 1) (j + 1) ≡ None
+pair_named count i j h l = rw (named count i (omega arith), named count j l, lt_in (i + 1) (j + 1) (omega arith)) refl
+  where
+    lt_in : (m n : ℕ) → m < n → nat_lt m n ≡ true
+    lt_in m n h = grind (arith, nat_tests)
+
+    le_in : (m n : ℕ) → m ≤ n → nat_le m n ≡ true
+    le_in m n h = grind (arith, nat_tests)
+
+    named : (count i : ℕ) → i < count → names_step count (i + 1) ≡ true
+    named count i h = and_in (nat_lt 0 (i + 1)) (nat_le (i + 1) count) (lt_in 0 (i + 1) (omega arith)) (le_in (i + 1) count (omega arith))
+
+pub pair_taken : (task : TaskParts) (o : Order) (i j : ℕ) → IsTrue (is_built task o) → pair_refusal (length o.steps) (i + 1) (j + 1) ≡ None → IsTrue (is_built task (with_pair o (i + 1) (j + 1)))
+unfolding is_built
+pair_taken task o i j b e = let k = pair_open (length o.steps) i j e in
+    and_in _ _ (and_left _ _ b) (list_all-append (is_forward (length o.steps)) o.extra ((i + 1 - 1, j + 1 - 1) ∷ []) ∙ and_in _ _ (and_right _ _ b) (and_in _ _ (and_in _ _ (lt_in (i + 1 - 1) (j + 1 - 1) (omega arith)) (lt_in (j + 1 - 1) (length o.steps) (omega arith))) refl))
+  where
+    lt_in : (m n : ℕ) → m < n → nat_lt m n ≡ true
+    lt_in m n h = grind (arith, nat_tests)
+
+pub pair_fits : (task : TaskParts) (o : Order) (i j : ℕ) → IsTrue (is_built task (with_pair o (i + 1) (j + 1))) → pair_refusal (length o.steps) (i + 1) (j + 1) ≡ None
+unfolding is_built
+pair_fits task o i j b = let forward : is_forward (length o.steps) (i + 1 - 1, j + 1 - 1) ≡ true = and_left _ _ (and_right _ _ (sym (list_all-append (is_forward (length o.steps)) o.extra ((i + 1 - 1, j + 1 - 1) ∷ [])) ∙ and_right _ _ b)) in
+    let before : i + 1 - 1 < j + 1 - 1 = lt_out (i + 1 - 1) (j + 1 - 1) (and_left _ _ forward) in
+    let inside : j + 1 - 1 < length o.steps = lt_out (j + 1 - 1) (length o.steps) (and_right _ _ forward) in
+    pair_named (length o.steps) i j (omega arith) (omega arith)
+  where
+    lt_out : (m n : ℕ) → nat_lt m n ≡ true → m < n
+    lt_out m n h = grind (arith, nat_tests)
+
 -- ---- orderings
 
 pub is_named : (count n : ℕ) → names_step count n ≡ true → (0 < n) × (n ≤ count)
@@ -181,6 +253,7 @@ is_named count n h = (lt_out 0 n (and_left (nat_lt 0 n) (nat_le n count) h), le_
   where
     lt_out : (m n : ℕ) → nat_lt m n ≡ true → m < n
     lt_out m n h = grind (arith, nat_tests)
+
     le_out : (m n : ℕ) → nat_le m n ≡ true → m ≤ n
     le_out m n h = grind (arith, nat_tests)
 

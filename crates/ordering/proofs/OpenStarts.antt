@@ -11,17 +11,18 @@ use Rattle.task_types.specs.declared.actions.SnapKind.TheVariants.{Start, End, I
 use Rattle.task_types.specs.declared.parts.TaskParts.{TaskParts}
 use Rattle.task_types.specs.Sets.{is_in}
 use Rattle.task_types.specs.Plan.{snap_of}
+use Rattle.task_types.specs.WellMade.{is_start}
 use Rattle.task_types.specs.Order.{Order, run_on, is_built, is_closed, timed_count, IsClosedOrdering}
 use Rattle.ordering.specs.declared.faults.OrderFault.{OrderFault}
 use Rattle.ordering.specs.declared.faults.OrderFault.TheVariants.{OpenAction, TilMissing}
-use Rattle.ordering.specs.Refusals.{is_open, is_start_of, is_end_of, first_open, lacking, closing_refusal}
+use Rattle.ordering.specs.Refusals.{is_open, is_end, first_open, lacking, closing_refusal}
 
 -- the action of an end, from its kind and its action
 abbrev ended_by : SnapKind → Option ℕ → List ℕ
-ended_by kind own = filter (λ a. is_end_of kind) (option_to_list own)
+ended_by kind own = filter (λ a. is_end kind) (option_to_list own)
 
 abbrev started_by : SnapKind → Option ℕ → List ℕ
-started_by kind own = filter (λ a. is_start_of kind) (option_to_list own)
+started_by kind own = filter (λ a. is_start kind) (option_to_list own)
 
 -- some later step ends the action
 abbrev is_ended : TaskParts → List ℕ → ℕ → Bool
@@ -110,6 +111,13 @@ lacks_timed task o e t = rw (e, unequal (timed_count task o.steps) (length task.
   where
     unequal : (n m : ℕ) → n ≢ m → (n == m) ≡ false
     unequal n m e = grind (arith, nat_tests)
+
+pub none_where_closed : (task : TaskParts) (o : Order) → IsClosedOrdering task o → closing_refusal task o ≡ None
+none_where_closed task o c = none_out (closing_refusal task o) (sym (closed_by_refusal task o) ∙ c.closed)
+  where
+    none_out : (r : Option OrderFault) → is_none r ≡ true → r ≡ None
+    none_out None e = refl
+    none_out (Some fault) e = cc
 
 -- ---- the search for an open start, place by place
 

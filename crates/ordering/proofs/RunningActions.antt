@@ -46,6 +46,7 @@ without_at (x ∷ xs) zero a d e = go (some_same x a e)
   where
     equal : (b c : ℕ) → c ≡ b → (b == c) ≡ true
     equal b c f = grind (arith, nat_tests)
+
     go : x ≡ a → without a (x ∷ xs) ≡ xs
     go f = rw (equal a x f) (without_absent a xs (subst (λ y. is_in y xs ≡ false) f (not_true (is_in x xs) (and_left (not (is_in x xs)) (are_distinct xs) d))))
 without_at (x ∷ xs) (suc k) a d e = rw (apart a x other, without_at xs k a (and_right (not (is_in x xs)) (are_distinct xs) d) e) refl
@@ -53,6 +54,7 @@ without_at (x ∷ xs) (suc k) a d e = rw (apart a x other, without_at xs k a (an
     go : (b : Bool) → (x == a) ≡ b → (x == a) ≡ false
     go false f = f
     go true f = let c : true ≡ false = sym (in_at_place xs k x (rw (numbers_same x a f) e)) ∙ not_true (is_in x xs) (and_left (not (is_in x xs)) (are_distinct xs) d) in cc
+
     other : (x == a) ≡ false
     other = go (x == a) refl
 

@@ -1,3 +1,5 @@
+pub mod ExampleTask
+pub mod Laws
 pub mod Meetings
 pub mod Orderings
 pub mod Refusals

@@ -9,6 +9,7 @@ use Rattle.task_types.specs.Order.{Order, may_follow, plan_step_count, plan_step
 use Rattle.task_types.specs.Plan.{snap_of}
 use Rattle.task_types.specs.Sets.{is_in}
 use Rattle.task_types.specs.Touch.{is_timed}
+use Rattle.task_types.specs.WellMade.{is_start}
 use Rattle.ordering.specs.declared.faults.OrderFault.{OrderFault}
 use Rattle.ordering.specs.declared.faults.OrderFault.TheVariants.{UnknownStep, Running, EndWithoutStart, OpenAction, TilMissing, TilOrder, Cycle, Limit, Memory}
 
@@ -47,24 +48,18 @@ pair_refusal count first second = if names_step count first && names_step count 
 
 -- ---- closing
 
-abbrev pub is_start_of : SnapKind → Bool
-is_start_of Start = true
-is_start_of End = false
-is_start_of Instant = false
-is_start_of Timed = false
-
-abbrev pub is_end_of : SnapKind → Bool
-is_end_of Start = false
-is_end_of End = true
-is_end_of Instant = false
-is_end_of Timed = false
+abbrev pub is_end : SnapKind → Bool
+is_end Start = false
+is_end End = true
+is_end Instant = false
+is_end Timed = false
 
 -- the action that a snap action starts, or ends, where there is one
 abbrev pub started : Snap → List ℕ
-started s = filter (λ a. is_start_of s.kind) (option_to_list s.action)
+started s = filter (λ a. is_start s.kind) (option_to_list s.action)
 
 abbrev pub ended : Snap → List ℕ
-ended s = filter (λ a. is_end_of s.kind) (option_to_list s.action)
+ended s = filter (λ a. is_end s.kind) (option_to_list s.action)
 
 -- A start is open where no later step ends its action.
 abbrev pub is_open : TaskParts → ℕ → List ℕ → Bool

@@ -3,10 +3,13 @@
 
 mod closing;
 mod faults;
+pub mod laws;
 mod links;
 mod orderings;
 mod running;
 mod snaps;
+#[cfg(test)]
+mod tests;
 
 pub use faults::OrderFault;
 pub use links::link_of;

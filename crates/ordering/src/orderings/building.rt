@@ -51,7 +51,12 @@ impl StepOrdering {
             return Err(fault);
         }
         let id = StepId::of(self.steps.len() as u32);
-        put_step(&mut self.steps, &mut self.running, snap, snap_at(task, snap))?;
+        put_step(
+            &mut self.steps,
+            &mut self.running,
+            snap,
+            snap_at(task, snap),
+        )?;
         if has_moment(task, snap) {
             self.timed_steps += 1;
         } else {

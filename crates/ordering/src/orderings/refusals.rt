@@ -54,7 +54,10 @@ impl StepOrdering {
                 refused_if(runs(self.running.as_slice(), step), OrderFault::Running)
             }
             SnapKind::End => {
-                refused_if(!runs(self.running.as_slice(), step), OrderFault::EndWithoutStart)
+                refused_if(
+                    !runs(self.running.as_slice(), step),
+                    OrderFault::EndWithoutStart,
+                )
             }
             SnapKind::Timed => {
                 let is_next = is_moment(task.timed(), self.timed_steps, snap);

@@ -34,12 +34,12 @@ returns-clause-over c = let free = sym c.refusal.ensures ∙ c.in_default.is in
     let put = c.in_ok-put_step.ensures {u = tt} in
     let runs = rw c.snap_at.ensures at put.running in
     elim c.if-has_moment.branch [
-        then-has_moment w ↦ let timed = sym c.has_moment.ensures ∙ w.if-has_moment.true in over_step c.args.task.now.parts c.args.self.now c.if-has_moment.self c.args.snap c.requires.over c.requires.in_range free
-            (ap (λ (o : StepOrdering). o.steps) w.self-is ∙ put.steps) (ap (λ (o : StepOrdering). o.extra) w.self-is) (ap (λ (o : StepOrdering). o.running) w.self-is ∙ runs)
-            (ap (λ (o : StepOrdering). o.plan_steps) w.self-is ∙ none_more (not (is_timed (snap_of c.args.task.now.parts c.args.snap).kind)) c.args.self.now.plan_steps (ap not timed))
-            (ap (λ (o : StepOrdering). o.timed_steps) w.self-is ∙ one_more (is_timed (snap_of c.args.task.now.parts c.args.snap).kind) c.args.self.now.timed_steps timed)
-        | else-has_moment w ↦ let timed = sym c.has_moment.ensures ∙ w.if-has_moment.false in over_step c.args.task.now.parts c.args.self.now c.if-has_moment.self c.args.snap c.requires.over c.requires.in_range free
-            (ap (λ (o : StepOrdering). o.steps) w.self-is ∙ put.steps) (ap (λ (o : StepOrdering). o.extra) w.self-is) (ap (λ (o : StepOrdering). o.running) w.self-is ∙ runs)
-            (ap (λ (o : StepOrdering). o.plan_steps) w.self-is ∙ one_more (not (is_timed (snap_of c.args.task.now.parts c.args.snap).kind)) c.args.self.now.plan_steps (ap not timed))
-            (ap (λ (o : StepOrdering). o.timed_steps) w.self-is ∙ none_more (is_timed (snap_of c.args.task.now.parts c.args.snap).kind) c.args.self.now.timed_steps timed)
+      | then-has_moment w ↦ let timed = sym c.has_moment.ensures ∙ w.if-has_moment.true in over_step c.args.task.now.parts c.args.self.now c.if-has_moment.self c.args.snap c.requires.over c.requires.in_range free
+          (ap (λ (o : StepOrdering). o.steps) w.self-is ∙ put.steps) (ap (λ (o : StepOrdering). o.extra) w.self-is) (ap (λ (o : StepOrdering). o.running) w.self-is ∙ runs)
+          (ap (λ (o : StepOrdering). o.plan_steps) w.self-is ∙ none_more (not (is_timed (snap_of c.args.task.now.parts c.args.snap).kind)) c.args.self.now.plan_steps (ap not timed))
+          (ap (λ (o : StepOrdering). o.timed_steps) w.self-is ∙ one_more (is_timed (snap_of c.args.task.now.parts c.args.snap).kind) c.args.self.now.timed_steps timed)
+      | else-has_moment w ↦ let timed = sym c.has_moment.ensures ∙ w.if-has_moment.false in over_step c.args.task.now.parts c.args.self.now c.if-has_moment.self c.args.snap c.requires.over c.requires.in_range free
+          (ap (λ (o : StepOrdering). o.steps) w.self-is ∙ put.steps) (ap (λ (o : StepOrdering). o.extra) w.self-is) (ap (λ (o : StepOrdering). o.running) w.self-is ∙ runs)
+          (ap (λ (o : StepOrdering). o.plan_steps) w.self-is ∙ one_more (not (is_timed (snap_of c.args.task.now.parts c.args.snap).kind)) c.args.self.now.plan_steps (ap not timed))
+          (ap (λ (o : StepOrdering). o.timed_steps) w.self-is ∙ none_more (is_timed (snap_of c.args.task.now.parts c.args.snap).kind) c.args.self.now.timed_steps timed)
     ]
