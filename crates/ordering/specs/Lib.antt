@@ -1,3 +1,4 @@
+pub mod Along
 pub mod ExampleTask
 pub mod Laws
 pub mod Meetings
