@@ -20,8 +20,8 @@ with_step o s = record { steps = o.steps ++ s ∷ []; extra = o.extra }
 abbrev pub with_pair : Order → ℕ → ℕ → Order
 with_pair o first second = record { steps = o.steps; extra = o.extra ++ (first - 1, second - 1) ∷ [] }
 
--- An ordering was built over a task where it is built by the task's definitions, its steps are snap actions of the task,
--- and it knows which actions run after its steps, how many plan steps it has, and how many timed steps.
+-- An ordering was built over a task where it is built by the task's definitions, its steps are snap actions of the
+-- task, and it knows which actions run after its steps, how many plan steps it has, and how many timed steps.
 pub record BuiltOver (task : TaskParts) (o : StepOrdering) : Type 0 where
   pub built : IsTrue (is_built task (order_of o))
   pub in_range : IsTrue (list_all (λ s. nat_lt s (length task.snaps)) o.steps)

@@ -65,8 +65,9 @@ impl StepOrdering {
         Ok(id)
     }
 
-    /// Sets two steps apart, the first before the second; they count from 1, and may be named twice. Refused are, in this
-    /// order, a number that is no step's, and a second step that isn't later. After a refusal the ordering is as it was.
+    /// Sets two steps apart, the first before the second; they count from 1, and may be named twice. Refused are, in
+    /// this order, a number that is no step's, and a second step that isn't later. After a refusal the ordering is as it
+    /// was.
     pub fn push_pair(&mut self, first: u32, second: u32) -> Result<(), OrderFault>
         ensures answer { Answers (pair_refusal (length self.old.steps) first second) result }
         ensures pushed { OnOk result (order_of self.new ≡ with_pair (order_of self.old) first second) }
@@ -116,8 +117,8 @@ impl StepOrdering {
         self.extra.as_slice()
     }
 
-    /// What a step and a later one ask of their times: Apart where an extra pair names them, else the link of their snap
-    /// actions.
+    /// What a step and a later one ask of their times: Apart where an extra pair names them, else the link of their
+    /// snap actions.
     pub fn pairs(&self, task: &Task, i: StepId, j: StepId) -> Link
         requires over { BuiltOver task.now.parts self.now }
         requires order { i < j }
