@@ -1,0 +1,10 @@
+pub mod ByTime
+pub mod Crossing
+pub mod Going
+pub mod Meetings
+pub mod Moment
+pub mod MoreSteps
+pub mod OpenStarts
+pub mod RunningActions
+pub mod Swapping
+pub mod Tied
