@@ -30,6 +30,7 @@ use Rattle.ordering.specs.Laws.{Tells}
 use Rattle.ordering.proofs.Crossing.{parted, MayCross}
 use Rattle.ordering.proofs.Swapping.{swapped, no_entries, is_in-append-out}
 use Rattle.ordering.proofs.Moment.{at_once, AllTogether, none_assigns, some_assigns}
+use Rattle.task_types.proofs.Unordered.{every_reordered}
 
 -- ---- lists filtered twice
 
@@ -182,9 +183,6 @@ reached_earlier (u ∷ us) (suc k) a h = next k us a.0 (omega arith) (reached_ea
     next zero [] b h r = absurd (omega arith)
     next zero (v ∷ vs) b h r = (omega arith, b.0, λ l. r (omega arith))
     next (suc k) us b h r = (omega (arith, r.0), r.1, λ l. r.2 (omega arith))
-
-every_reordered : {X : Type 0} (P : X → Type 0) (xs ys : List X) → IsPermutation xs ys → AllByRecursion P xs → AllByRecursion P ys
-every_reordered P = reordered (λ xs ys. AllByRecursion P xs → AllByRecursion P ys) (λ xs h. h) (λ xs ys zs f g h. g (f h)) (λ x xs ys f h. (h.0, f h.1)) (λ x y zs h. (h.1.0, (h.0, h.1.1)))
 
 -- ---- the states
 

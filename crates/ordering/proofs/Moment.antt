@@ -16,11 +16,9 @@ use Rattle.task_types.specs.Course.{entries_of, effect_of, amount, assigned, inc
 use Rattle.task_types.specs.Clash.{assigned_fluents, increased_fluents, written_fluents}
 use Rattle.task_types.proofs.Alike.{fold-total}
 use Rattle.ordering.specs.Along.{Carried, at_time, turn, carry, carry_all, LeavesUnwritten, Together}
-use Rattle.ordering.proofs.Swapping.{or_left_out, or_right_out, is_in-append-out, no_entries, terms-same, new_value, none_assigned, none_increased}
-
-pub total-append : (xs ys : List ℚ) → total (xs ++ ys) ≡ total xs +ℚ total ys
-total-append [] ys = law ℚ_ring (total ys ∷ []) (λ a. a ≐ num 0 ⊕ a) refl
-total-append (x ∷ xs) ys = ap (λ q. x +ℚ q) (total-append xs ys) ∙ law ℚ_ring (x ∷ total xs ∷ total ys ∷ []) (λ x a b. x ⊕ (a ⊕ b) ≐ (x ⊕ a) ⊕ b) refl
+use Rattle.basics.proofs.Bools.{or_false_left, or_false_right}
+use Rattle.ordering.proofs.Swapping.{is_in-append-out, no_entries, terms-same, new_value, none_assigned, none_increased}
+use Rattle.task_types.proofs.Values.{total-append}
 
 pub append_nothing : {A : Type 0} (xs : List A) → xs ++ [] ≡ xs
 append_nothing [] = refl
@@ -76,8 +74,8 @@ module _ (task : TaskParts) (s : State) (x : Step) where
   pub none_assigns : (f : ℕ) (ys : List Step) → list_any (λ y. is_in f (assigned_fluents (snap_of task y.snap))) ys ≡ false → assigned task ys s f ≡ []
   none_assigns f [] h = refl
   none_assigns f (y ∷ ys) h = ap₂ (λ (a b : List ℚ). a ++ b)
-      (ap (λ l. map (amount y s) l) (no_entries f (effect_of task y).assigns (or_left_out (is_in f (assigned_fluents (snap_of task y.snap))) (list_any (λ y. is_in f (assigned_fluents (snap_of task y.snap))) ys) h)))
-      (none_assigns f ys (or_right_out (is_in f (assigned_fluents (snap_of task y.snap))) (list_any (λ y. is_in f (assigned_fluents (snap_of task y.snap))) ys) h))
+      (ap (λ l. map (amount y s) l) (no_entries f (effect_of task y).assigns (or_false_left (is_in f (assigned_fluents (snap_of task y.snap))) (list_any (λ y. is_in f (assigned_fluents (snap_of task y.snap))) ys) h)))
+      (none_assigns f ys (or_false_right (is_in f (assigned_fluents (snap_of task y.snap))) (list_any (λ y. is_in f (assigned_fluents (snap_of task y.snap))) ys) h))
 
   -- what one of the others assigns the first doesn't write
   pub some_assigns : (f : ℕ) (ys : List Step) → AllByRecursion (λ y. Together (snap_of task x.snap) (snap_of task y.snap)) ys → list_any (λ y. is_in f (assigned_fluents (snap_of task y.snap))) ys ≡ true → is_in f (written_fluents (snap_of task x.snap)) ≡ false

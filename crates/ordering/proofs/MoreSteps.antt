@@ -21,6 +21,7 @@ use Rattle.ordering.specs.declared.faults.OrderFault.TheVariants.{UnknownStep, T
 use Rattle.ordering.specs.declared.orderings.StepOrdering.{StepOrdering}
 use Rattle.ordering.specs.Orderings.{order_of, with_step, with_pair, BuiltOver}
 use Rattle.ordering.specs.Refusals.{step_refusal, exceeds_limit, push_refusal, names_step, pair_refusal}
+use Rattle.task_types.proofs.StepCounts.{take_done, at_done, running-more}
 
 -- ---- what a step that isn't refused is
 
@@ -117,14 +118,6 @@ every_same (suc n) p q h = rw (every_same n p q (λ k l. h k (omega arith)), h n
 abbrev follows : TaskParts → List ℕ → ℕ → Bool
 follows task steps k = may_follow task (take k steps) (slice_index steps k) (snap_of task (slice_index steps k)).kind
 
-take_done : (xs ys : List ℕ) → take (length xs) (xs ++ ys) ≡ xs
-take_done [] ys = refl
-take_done (x ∷ xs) ys = ap (λ (l : List ℕ). x ∷ l) (take_done xs ys)
-
-at_done : (xs ys : List ℕ) (s : ℕ) → slice_index (xs ++ s ∷ ys) (length xs) ≡ s
-at_done [] ys s = refl
-at_done (x ∷ xs) ys s = at_done xs ys s
-
 one_longer : (xs : List ℕ) (s : ℕ) → length (xs ++ s ∷ []) ≡ suc (length xs)
 one_longer xs s = omega (arith, length-append xs (s ∷ []))
 
@@ -145,9 +138,6 @@ timed_more task steps s = count_more (λ s. is_timed (snap_of task s).kind) step
 
 pub plan_more : (task : TaskParts) (steps : List ℕ) (s : ℕ) → plan_step_count task (steps ++ s ∷ []) ≡ plan_step_count task steps + cond (not (is_timed (snap_of task s).kind)) 1 0
 plan_more task steps s = count_more (λ s. not (is_timed (snap_of task s).kind)) steps s
-
-pub running_more : (task : TaskParts) (steps : List ℕ) (s : ℕ) → running task (steps ++ s ∷ []) ≡ run_on (snap_of task s).kind (option_to_list (snap_of task s).action) (running task steps)
-running_more task steps s = fold-append _ [] steps (s ∷ [])
 
 all_weaker : {X : Type 0} (p q : X → Bool) (xs : List X) → ((x : X) → p x ≡ true → q x ≡ true) → list_all p xs ≡ true → list_all q xs ≡ true
 all_weaker p q [] h a = refl
@@ -270,7 +260,7 @@ pub over_step : (task : TaskParts) (o n : StepOrdering) (s : ℕ) → BuiltOver 
 over_step task o n s b l f steps extra runs plans timed = record {
   built = let e : order_of n ≡ with_step (order_of o) s = rw (steps, extra) refl in rw e (built_more task (order_of o) s b.built (is_taken task (order_of o) s f));
   in_range = rw steps (list_all-append (λ s. nat_lt s (length task.snaps)) o.steps (s ∷ []) ∙ and_in _ _ b.in_range (and_in _ _ (lt_in s (length task.snaps) l) refl));
-  running = runs ∙ rw (steps, running_more task o.steps s, b.running) refl;
+  running = runs ∙ rw (steps, running-more task o.steps s, b.running) refl;
   plan_steps = plans ∙ rw (steps, plan_more task o.steps s, b.plan_steps) refl;
   timed_steps = timed ∙ rw (steps, timed_more task o.steps s, b.timed_steps) refl;
 }

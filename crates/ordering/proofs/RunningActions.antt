@@ -10,15 +10,8 @@ use Rattle.task_types.specs.declared.actions.SnapKind.{SnapKind}
 use Rattle.task_types.specs.declared.actions.SnapKind.TheVariants.{Start, End, Instant, Timed}
 use Rattle.task_types.specs.Sets.{is_in, meet, are_distinct}
 use Rattle.task_types.specs.Order.{run_on}
-
-other_way : (a b : ℕ) → (a == b) ≡ (b == a)
-other_way a b = grind (arith, nat_tests)
-
-same_number : (a : ℕ) → (a == a) ≡ true
-same_number a = grind (arith, nat_tests)
-
-numbers_same : (a b : ℕ) → (a == b) ≡ true → a ≡ b
-numbers_same a b e = grind (arith, nat_tests)
+use Rattle.basics.proofs.Naturals.{same_itself, same_out}
+use Rattle.task_types.proofs.StepCounts.{other_way, distinct_more, chosen_not_in, distinct_chosen, without, nothing_lost}
 
 some_same : (a b : ℕ) → Some a ≡ Some b → a ≡ b
 some_same a b e = cc
@@ -27,18 +20,11 @@ some_same a b e = cc
 
 pub in_at_place : (xs : List ℕ) (k a : ℕ) → slice_get xs k ≡ Some a → is_in a xs ≡ true
 in_at_place [] k a e = let c : None ≡ Some a = e in cc
-in_at_place (x ∷ xs) zero a e = or_left (x == a) (is_in a xs) (rw (some_same x a e) (same_number a))
+in_at_place (x ∷ xs) zero a e = or_left (x == a) (is_in a xs) (rw (some_same x a e) (same_itself a))
 in_at_place (x ∷ xs) (suc k) a e = or_right (x == a) (is_in a xs) (in_at_place xs k a e)
-
-abbrev pub without : ℕ → List ℕ → List ℕ
-without a xs = filter (λ b. not (is_in b (a ∷ []))) xs
 
 apart : (a x : ℕ) → (x == a) ≡ false → not (is_in x (a ∷ [])) ≡ true
 apart a x e = rw (other_way a x, e) refl
-
-pub without_absent : (a : ℕ) (xs : List ℕ) → is_in a xs ≡ false → without a xs ≡ xs
-without_absent a [] h = refl
-without_absent a (x ∷ xs) h = rw (apart a x (or_false_left (x == a) (is_in a xs) h), without_absent a xs (or_false_right (x == a) (is_in a xs) h)) refl
 
 pub without_at : (xs : List ℕ) (k a : ℕ) → are_distinct xs ≡ true → slice_get xs k ≡ Some a → without a xs ≡ remove xs k
 without_at [] k a d e = let c : None ≡ Some a = e in cc
@@ -48,12 +34,12 @@ without_at (x ∷ xs) zero a d e = go (some_same x a e)
     equal b c f = grind (arith, nat_tests)
 
     go : x ≡ a → without a (x ∷ xs) ≡ xs
-    go f = rw (equal a x f) (without_absent a xs (subst (λ y. is_in y xs ≡ false) f (not_true (is_in x xs) (and_left (not (is_in x xs)) (are_distinct xs) d))))
+    go f = rw (equal a x f) (nothing_lost a xs (subst (λ y. is_in y xs ≡ false) f (not_true (is_in x xs) (and_left (not (is_in x xs)) (are_distinct xs) d))))
 without_at (x ∷ xs) (suc k) a d e = rw (apart a x other, without_at xs k a (and_right (not (is_in x xs)) (are_distinct xs) d) e) refl
   where
     go : (b : Bool) → (x == a) ≡ b → (x == a) ≡ false
     go false f = f
-    go true f = let c : true ≡ false = sym (in_at_place xs k x (rw (numbers_same x a f) e)) ∙ not_true (is_in x xs) (and_left (not (is_in x xs)) (are_distinct xs) d) in cc
+    go true f = let c : true ≡ false = sym (in_at_place xs k x (rw (same_out x a f) e)) ∙ not_true (is_in x xs) (and_left (not (is_in x xs)) (are_distinct xs) d) in cc
 
     other : (x == a) ≡ false
     other = go (x == a) refl
@@ -73,32 +59,6 @@ runs_as_before Start running = append-nil running
 runs_as_before End running = all_kept running
 runs_as_before Instant running = refl
 runs_as_before Timed running = refl
-
-distinct_more : (a : ℕ) (xs : List ℕ) → is_in a xs ≡ false → are_distinct xs ≡ true → are_distinct (xs ++ a ∷ []) ≡ true
-distinct_more a [] h d = refl
-distinct_more a (x ∷ xs) h d = and_in (not (is_in x (xs ++ a ∷ []))) (are_distinct (xs ++ a ∷ [])) (ap not outside) (distinct_more a xs (or_false_right (x == a) (is_in a xs) h) (and_right (not (is_in x xs)) (are_distinct xs) d))
-  where
-    neither : (b c : Bool) → b ≡ false → c ≡ false → (b || (c || false)) ≡ false
-    neither b c e f = rw (e, f) refl
-
-    outside : is_in x (xs ++ a ∷ []) ≡ false
-    outside = list_any-append (λ y. y == x) xs (a ∷ []) ∙ neither (is_in x xs) (a == x) (not_true (is_in x xs) (and_left (not (is_in x xs)) (are_distinct xs) d)) (other_way a x ∙ or_false_left (x == a) (is_in a xs) h)
-
-chosen_not_in : (x : ℕ) (p : ℕ → Bool) (xs : List ℕ) → is_in x xs ≡ false → is_in x (filter p xs) ≡ false
-chosen_not_in x p [] h = refl
-chosen_not_in x p (y ∷ ys) h = go (p y) (chosen_not_in x p ys (or_false_right (y == x) (is_in x ys) h))
-  where
-    go : (b : Bool) → is_in x (filter p ys) ≡ false → is_in x (cond b (y ∷ filter p ys) (filter p ys)) ≡ false
-    go true e = rw (or_false_left (y == x) (is_in x ys) h, e) refl
-    go false e = e
-
-distinct_chosen : (p : ℕ → Bool) (xs : List ℕ) → are_distinct xs ≡ true → are_distinct (filter p xs) ≡ true
-distinct_chosen p [] d = refl
-distinct_chosen p (x ∷ xs) d = go (p x) (distinct_chosen p xs (and_right (not (is_in x xs)) (are_distinct xs) d))
-  where
-    go : (b : Bool) → are_distinct (filter p xs) ≡ true → are_distinct (cond b (x ∷ filter p xs) (filter p xs)) ≡ true
-    go true e = and_in (not (is_in x (filter p xs))) (are_distinct (filter p xs)) (ap not (chosen_not_in x p xs (not_true (is_in x xs) (and_left (not (is_in x xs)) (are_distinct xs) d)))) e
-    go false e = e
 
 -- What runs after a start of an action that didn't run, or after another step, has no action twice.
 pub distinct_on : (kind : SnapKind) (own : Option ℕ) (running : List ℕ) → are_distinct running ≡ true → (kind ≡ Start → meet (option_to_list own) running ≡ false) → are_distinct (run_on kind (option_to_list own) running) ≡ true

@@ -19,16 +19,9 @@ use Rattle.task_types.specs.Clash.{assigned_fluents, increased_fluents, written_
 use Rattle.task_types.specs.Touch.{started_or_ended, bent_fluents}
 use Rattle.task_types.proofs.Alike.{fold-total}
 use Rattle.ordering.specs.Along.{Carried, at_time, sign, turn, carry, changes, changes_fact, Spares, Independent}
+use Rattle.basics.proofs.Bools.{or_false_left, or_false_right}
 
 -- ---- tests of lists
-
-pub or_left_out : (a b : Bool) → (a || b) ≡ false → a ≡ false
-or_left_out true b e = e
-or_left_out false b e = refl
-
-pub or_right_out : (a b : Bool) → (a || b) ≡ false → b ≡ false
-or_right_out true b e = let c : true ≡ false = e in cc
-or_right_out false b e = e
 
 pub is_in-append-out : (f : ℕ) (xs ys : List ℕ) → is_in f (xs ++ ys) ≡ false → (is_in f xs ≡ false) × (is_in f ys ≡ false)
 is_in-append-out f [] ys h = (refl, h)
@@ -41,7 +34,7 @@ is_in-append-out f (x ∷ xs) ys h = go (x == f) (is_in-append-out f xs ys) h
 module _ {A : Type 0} where
   pub no_entries : (f : ℕ) (xs : List (ℕ × A)) → is_in f (map (λ e. e.0) xs) ≡ false → entries_of f xs ≡ []
   no_entries f [] h = refl
-  no_entries f (x ∷ xs) h = rw (or_left_out (x.0 == f) (is_in f (map (λ e. e.0) xs)) h) (no_entries f xs (or_right_out (x.0 == f) (is_in f (map (λ e. e.0) xs)) h))
+  no_entries f (x ∷ xs) h = rw (or_false_left (x.0 == f) (is_in f (map (λ e. e.0) xs)) h) (no_entries f xs (or_false_right (x.0 == f) (is_in f (map (λ e. e.0) xs)) h))
 
   entries_of-append : (f : ℕ) (xs ys : List (ℕ × A)) → entries_of f (xs ++ ys) ≡ entries_of f xs ++ entries_of f ys
   entries_of-append f [] ys = refl
@@ -85,15 +78,15 @@ pub none_increased : (task : TaskParts) (x : Step) (s : State) (f : ℕ) → is_
 none_increased task x s f h = ap (λ l. map (amount x s) l ++ []) (no_entries f (effect_of task x).increases h)
 
 pub slope-left : (task : TaskParts) (m : Carried) (x : Step) (f : ℕ) → changes task (snap_of task x.snap) f ≡ false → (carry task m x).slope f ≡ m.slope f
-slope-left task m x f h = new_slope task m x f ∙ ap (λ q. m.slope f +ℚ q) (no_turn task (snap_of task x.snap) f (or_right_out (is_in f (written_fluents (snap_of task x.snap))) (is_in f (bent_fluents task (snap_of task x.snap))) h)) ∙ law ℚ_ring (m.slope f ∷ []) (λ a. a ⊕ num 0 ≐ a) refl
+slope-left task m x f h = new_slope task m x f ∙ ap (λ q. m.slope f +ℚ q) (no_turn task (snap_of task x.snap) f (or_false_right (is_in f (written_fluents (snap_of task x.snap))) (is_in f (bent_fluents task (snap_of task x.snap))) h)) ∙ law ℚ_ring (m.slope f ∷ []) (λ a. a ⊕ num 0 ≐ a) refl
 
 pub level-left : (task : TaskParts) (m : Carried) (x : Step) (f : ℕ) → changes task (snap_of task x.snap) f ≡ false → (carry task m x).level f ≡ m.level f
 level-left task m x f h =
-    let w = is_in-append-out f (assigned_fluents (snap_of task x.snap)) (increased_fluents (snap_of task x.snap)) (or_left_out (is_in f (written_fluents (snap_of task x.snap))) (is_in f (bent_fluents task (snap_of task x.snap))) h) in
+    let w = is_in-append-out f (assigned_fluents (snap_of task x.snap)) (increased_fluents (snap_of task x.snap)) (or_false_left (is_in f (written_fluents (snap_of task x.snap))) (is_in f (bent_fluents task (snap_of task x.snap))) h) in
     new_level task m x f
     ∙ ap (λ l. (last_or_else (m.level f +ℚ m.slope f *ℚ x.time) l +ℚ total (increased task (x ∷ []) (at_time m x.time) f)) -ℚ (m.slope f +ℚ turn task (snap_of task x.snap) f) *ℚ x.time) (none_assigned task x (at_time m x.time) f w.0)
     ∙ ap (λ l. ((m.level f +ℚ m.slope f *ℚ x.time) +ℚ total l) -ℚ (m.slope f +ℚ turn task (snap_of task x.snap) f) *ℚ x.time) (none_increased task x (at_time m x.time) f w.1)
-    ∙ ap (λ q. ((m.level f +ℚ m.slope f *ℚ x.time) +ℚ zeroℚ) -ℚ (m.slope f +ℚ q) *ℚ x.time) (no_turn task (snap_of task x.snap) f (or_right_out (is_in f (written_fluents (snap_of task x.snap))) (is_in f (bent_fluents task (snap_of task x.snap))) h))
+    ∙ ap (λ q. ((m.level f +ℚ m.slope f *ℚ x.time) +ℚ zeroℚ) -ℚ (m.slope f +ℚ q) *ℚ x.time) (no_turn task (snap_of task x.snap) f (or_false_right (is_in f (written_fluents (snap_of task x.snap))) (is_in f (bent_fluents task (snap_of task x.snap))) h))
     ∙ law ℚ_ring (m.level f ∷ m.slope f ∷ x.time ∷ []) (λ a b t. ((a ⊕ b ⊗ t) ⊕ num 0) ⊖ (b ⊕ num 0) ⊗ t ≐ a) refl
 
 -- ---- amounts read fluents alone that are spared

@@ -21,25 +21,12 @@ use Rattle.task_types.proofs.Comparisons.{lt_le_absurd}
 use Rattle.task_types.proofs.Everyone.{and_left, and_right}
 use Rattle.task_types.proofs.Places.{numbers-more}
 use Rattle.ordering.specs.Along.{changes, changes_fact, Independent, Together, Agrees, AllAgree, tied_apart, tied_in_order, Follows, AreInOrder}
-use Rattle.ordering.proofs.Swapping.{or_left_out, or_right_out}
+use Rattle.basics.proofs.Bools.{or_left, or_right, or_false_left, or_false_right}
+use Rattle.basics.proofs.Naturals.{same_itself, same_out}
+use Rattle.task_types.proofs.Assigning.{is_in-left}
+use Rattle.task_types.proofs.SetApart.{in_right, below_out}
 
 -- ---- membership
-
-is_in-first : (f : ℕ) (xs ys : List ℕ) → is_in f xs ≡ true → is_in f (xs ++ ys) ≡ true
-is_in-first f [] ys h = let c : false ≡ true = h in cc
-is_in-first f (x ∷ xs) ys h = go (x == f) (is_in-first f xs ys) h
-  where
-    go : (b : Bool) → (is_in f xs ≡ true → is_in f (xs ++ ys) ≡ true) → (b || is_in f xs) ≡ true → (b || is_in f (xs ++ ys)) ≡ true
-    go true r h = refl
-    go false r h = r h
-
-is_in-second : (f : ℕ) (xs ys : List ℕ) → is_in f ys ≡ true → is_in f (xs ++ ys) ≡ true
-is_in-second f [] ys h = h
-is_in-second f (x ∷ xs) ys h = go (x == f) (is_in-second f xs ys h)
-  where
-    go : (b : Bool) → is_in f (xs ++ ys) ≡ true → (b || is_in f (xs ++ ys)) ≡ true
-    go true r = refl
-    go false r = r
 
 is_in-or : (f : ℕ) (xs ys : List ℕ) → is_in f (xs ++ ys) ≡ true → (is_in f xs ≡ true) ⊎ (is_in f ys ≡ true)
 is_in-or f [] ys h = inr h
@@ -49,49 +36,35 @@ is_in-or f (x ∷ xs) ys h = go (x == f) (is_in-or f xs ys) h
     go true r h = inl refl
     go false r h = r h
 
-same_number : (x y : ℕ) → (x == y) ≡ true → x ≡ y
-same_number x y h = grind (arith, h)
-
-below_count : (n f : ℕ) (xs : List ℕ) → list_all (λ x. nat_lt x n) xs ≡ true → is_in f xs ≡ true → f < n
-below_count n f [] h k = let c : false ≡ true = k in cc
-below_count n f (x ∷ xs) h k = go (x == f) refl (below_count n f xs (and_right (nat_lt x n) (list_all (λ x. nat_lt x n) xs) h)) k
-  where
-    go : (b : Bool) → (x == f) ≡ b → (is_in f xs ≡ true → f < n) → (b || is_in f xs) ≡ true → f < n
-    go true e r k = let l : nat_lt x n ≡ true = and_left (nat_lt x n) (list_all (λ x. nat_lt x n) xs) h in let s : x ≡ f = same_number x f e in grind (arith, l, s)
-    go false e r k = r k
-
 within_count : (n f : ℕ) (xs : List ℕ) → are_below n xs ≡ true → is_in f xs ≡ true → f < n
-within_count n f xs h k = below_count n f xs (and_right (is_short xs) (list_all (λ x. nat_lt x n) xs) h) k
+within_count n f xs h k = below_out n f xs (and_right (is_short xs) (list_all (λ x. nat_lt x n) xs) h) k
 
 -- ---- tokens
 
 module _ {X : Type 0} (p : X → Bool) where
   none_first : (xs ys : List X) → list_any p (xs ++ ys) ≡ false → list_any p xs ≡ false
   none_first [] ys h = refl
-  none_first (x ∷ xs) ys h = rw (or_left_out (p x) (list_any p (xs ++ ys)) h) (none_first xs ys (or_right_out (p x) (list_any p (xs ++ ys)) h))
+  none_first (x ∷ xs) ys h = rw (or_false_left (p x) (list_any p (xs ++ ys)) h) (none_first xs ys (or_false_right (p x) (list_any p (xs ++ ys)) h))
 
   none_second : (xs ys : List X) → list_any p (xs ++ ys) ≡ false → list_any p ys ≡ false
   none_second [] ys h = h
-  none_second (x ∷ xs) ys h = none_second xs ys (or_right_out (p x) (list_any p (xs ++ ys)) h)
+  none_second (x ∷ xs) ys h = none_second xs ys (or_false_right (p x) (list_any p (xs ++ ys)) h)
 
   none_mapped : (g : ℕ → X) (xs : List ℕ) (k : ℕ) → is_in k xs ≡ true → list_any p (map g xs) ≡ false → p (g k) ≡ false
   none_mapped g [] k h e = let c : false ≡ true = h in cc
-  none_mapped g (x ∷ xs) k h e = go (x == k) refl (λ r. none_mapped g xs k r (or_right_out (p (g x)) (list_any p (map g xs)) e)) h
+  none_mapped g (x ∷ xs) k h e = go (x == k) refl (λ r. none_mapped g xs k r (or_false_right (p (g x)) (list_any p (map g xs)) e)) h
     where
       go : (b : Bool) → (x == k) ≡ b → (is_in k xs ≡ true → p (g k) ≡ false) → (b || is_in k xs) ≡ true → p (g k) ≡ false
-      go true s r h = subst (λ n. p (g n) ≡ false) (same_number x k s) (or_left_out (p (g x)) (list_any p (map g xs)) e)
+      go true s r h = subst (λ n. p (g n) ≡ false) (same_out x k s) (or_false_left (p (g x)) (list_any p (map g xs)) e)
       go false s r h = r h
-
-is_itself : (k : ℕ) → (k == k) ≡ true
-is_itself k = grind arith
 
 among_numbers : (n k : ℕ) → k < n → is_in k (numbers n) ≡ true
 among_numbers zero k h = absurd (omega arith)
 among_numbers (suc n) k h = let e : n + 1 ≡ suc n = omega arith in subst (λ m. is_in k (numbers m) ≡ true) e (subst (λ l. is_in k l ≡ true) (sym (numbers-more n)) (go (n == k) refl (among_numbers n k)))
   where
     go : (b : Bool) → (n == k) ≡ b → (k < n → is_in k (numbers n) ≡ true) → is_in k (numbers n ++ n ∷ []) ≡ true
-    go true e r = is_in-second k (numbers n) (n ∷ []) (ap (λ c. c || false) e)
-    go false e r = is_in-first k (numbers n) (n ∷ []) (r (less n k h e))
+    go true e r = in_right k (numbers n) (n ∷ []) (ap (λ c. c || false) e)
+    go false e r = is_in-left k (numbers n) (n ∷ []) (r (less n k h e))
       where
         less : (n k : ℕ) → k < suc n → (n == k) ≡ false → k < n
         less n k h e = grind (arith, h, e)
@@ -102,7 +75,7 @@ kept_number p k (x ∷ xs) e h = go (x == k) (p x) refl refl (kept_number p k xs
   where
     go : (b c : Bool) → (x == k) ≡ b → p x ≡ c → (is_in k xs ≡ true → is_in k (filter p xs) ≡ true) → (b || is_in k xs) ≡ true → is_in k (cond c (x ∷ filter p xs) (filter p xs)) ≡ true
     go true true s q r h = ap (λ b. b || is_in k (filter p xs)) s
-    go true false s q r h = let c : false ≡ true = sym q ∙ ap p (same_number x k s) ∙ e in cc
+    go true false s q r h = let c : false ≡ true = sym q ∙ ap p (same_out x k s) ∙ e in cc
     go false true s q r h = ap (λ b. b || is_in k (filter p xs)) s ∙ r h
     go false false s q r h = r h
 
@@ -133,11 +106,11 @@ module _ (task : TaskParts) (p : Token → Bool) (none : list_any p (tokens task
 -- what a snap action tracks is tracked
 tracked_by : (snaps : List Snap) (k f : ℕ) → is_in f (snap_tracked (slice_index_or snaps k no_snap)) ≡ true → is_in f (flat_map snap_tracked snaps) ≡ true
 tracked_by [] k f h = let c : false ≡ true = h in cc
-tracked_by (s ∷ ss) zero f h = is_in-first f (snap_tracked s) (flat_map snap_tracked ss) h
-tracked_by (s ∷ ss) (suc k) f h = is_in-second f (snap_tracked s) (flat_map snap_tracked ss) (tracked_by ss k f h)
+tracked_by (s ∷ ss) zero f h = is_in-left f (snap_tracked s) (flat_map snap_tracked ss) h
+tracked_by (s ∷ ss) (suc k) f h = in_right f (snap_tracked s) (flat_map snap_tracked ss) (tracked_by ss k f h)
 
 pub is_tracked : (task : TaskParts) (k f : ℕ) → is_in f (snap_tracked (snap_of task k)) ≡ true → is_in f (tracked_fluents task) ≡ true
-is_tracked task k f h = is_in-first f (flat_map snap_tracked task.snaps ++ flat_map action_tracked task.actions ++ condition_fluents task.goal) (flat_map soft_fluents task.soft) (is_in-first f (flat_map snap_tracked task.snaps ++ flat_map action_tracked task.actions) (condition_fluents task.goal) (is_in-first f (flat_map snap_tracked task.snaps) (flat_map action_tracked task.actions) (tracked_by task.snaps k f h)))
+is_tracked task k f h = is_in-left f (flat_map snap_tracked task.snaps ++ flat_map action_tracked task.actions ++ condition_fluents task.goal) (flat_map soft_fluents task.soft) (is_in-left f (flat_map snap_tracked task.snaps ++ flat_map action_tracked task.actions) (condition_fluents task.goal) (is_in-left f (flat_map snap_tracked task.snaps) (flat_map action_tracked task.actions) (tracked_by task.snaps k f h)))
 
 -- ---- what well made snap actions write and read
 
@@ -195,23 +168,23 @@ abbrev effect_reads : Snap → List ℕ
 effect_reads s = flat_map (λ e. form_fluents e.1.form) (s.effect.assigns ++ s.effect.increases)
 
 read_tracked : (task : TaskParts) (k f : ℕ) → is_in f (effect_reads (snap_of task k)) ≡ true → is_in f (tracked_fluents task) ≡ true
-read_tracked task k f h = is_tracked task k f (is_in-first f (condition_fluents (snap_of task k).condition ++ effect_reads (snap_of task k)) (assigned_fluents (snap_of task k)) (is_in-second f (condition_fluents (snap_of task k).condition) (effect_reads (snap_of task k)) h))
+read_tracked task k f h = is_tracked task k f (is_in-left f (condition_fluents (snap_of task k).condition ++ effect_reads (snap_of task k)) (assigned_fluents (snap_of task k)) (in_right f (condition_fluents (snap_of task k).condition) (effect_reads (snap_of task k)) h))
 
 assigned_tracked : (task : TaskParts) (k f : ℕ) → is_in f (assigned_fluents (snap_of task k)) ≡ true → is_in f (tracked_fluents task) ≡ true
-assigned_tracked task k f h = is_tracked task k f (is_in-second f (condition_fluents (snap_of task k).condition ++ effect_reads (snap_of task k)) (assigned_fluents (snap_of task k)) h)
+assigned_tracked task k f h = is_tracked task k f (in_right f (condition_fluents (snap_of task k).condition ++ effect_reads (snap_of task k)) (assigned_fluents (snap_of task k)) h)
 
 read_looks : (task : TaskParts) (s : Snap) (f : ℕ) → is_in f (effect_reads s) ≡ true → looks task s (token.Fluent f) ≡ true
-read_looks task s f h = is_in-first f (read_fluents task s) (flat_map condition_fluents (watches task s)) (is_in-first f (condition_fluents s.condition ++ effect_reads s) (flat_map (λ b. form_fluents b.form) (read_bounds task s)) (is_in-second f (condition_fluents s.condition) (effect_reads s) h))
+read_looks task s f h = is_in-left f (read_fluents task s) (flat_map condition_fluents (watches task s)) (is_in-left f (condition_fluents s.condition ++ effect_reads s) (flat_map (λ b. form_fluents b.form) (read_bounds task s)) (in_right f (condition_fluents s.condition) (effect_reads s) h))
 
 assigned_marks : (task : TaskParts) (s : Snap) (f : ℕ) → is_in f (assigned_fluents s) ≡ true → marks task s (token.Fluent f) ≡ true
-assigned_marks task s f h = is_in-first f (assigned_fluents s) (increased_fluents s) h
+assigned_marks task s f h = is_in-left f (assigned_fluents s) (increased_fluents s) h
 
 changed_marks : (task : TaskParts) (s : Snap) (f : ℕ) → changes_fact s f ≡ true → marks task s (token.Fact f) ≡ true
 changed_marks task s f h = go (is_in f s.effect.adds) refl h
   where
     go : (b : Bool) → is_in f s.effect.adds ≡ b → (b || is_in f s.effect.deletes) ≡ true → is_in f (changed_facts s) ≡ true
-    go true e h = is_in-first f s.effect.adds s.effect.deletes e
-    go false e h = is_in-second f s.effect.adds s.effect.deletes h
+    go true e h = is_in-left f s.effect.adds s.effect.deletes e
+    go false e h = in_right f s.effect.adds s.effect.deletes h
 
 -- ---- two tied or untied steps
 
@@ -284,36 +257,29 @@ module _ (task : TaskParts) (fits : (k : ℕ) → snap_fits task (snap_of task k
         go : (marks task x (token.Fluent f) ≡ false) × (looks task x (token.Fluent f) ≡ false) → ⊥
         go h = not_both (marks task x (token.Fluent f) || looks task x (token.Fluent f)) e (ap₂ (λ a b. a || b) h.0 h.1)
 
-or_first : (a b : Bool) → a ≡ true → (a || b) ≡ true
-or_first a b e = ap (λ c. c || b) e
-
-or_second : (a b : Bool) → b ≡ true → (a || b) ≡ true
-or_second true b e = refl
-or_second false b e = e
-
 -- a fact of each fluent that some amounts read
 all_read : (P : ℕ → Type 0) (es : List (ℕ × Amount)) → ((f : ℕ) → is_in f (flat_map (λ (e : ℕ × Amount). form_fluents e.1.form) es) ≡ true → P f) → AllByRecursion (λ e. AllByRecursion (λ t. P t.0) e.1.form.terms) es
 all_read P [] h = tt
-all_read P (e ∷ es) h = (terms e.1.form.terms (λ f i. h f (is_in-first f (form_fluents e.1.form) (flat_map (λ (e : ℕ × Amount). form_fluents e.1.form) es) i)), all_read P es (λ f i. h f (is_in-second f (form_fluents e.1.form) (flat_map (λ (e : ℕ × Amount). form_fluents e.1.form) es) i)))
+all_read P (e ∷ es) h = (terms e.1.form.terms (λ f i. h f (is_in-left f (form_fluents e.1.form) (flat_map (λ (e : ℕ × Amount). form_fluents e.1.form) es) i)), all_read P es (λ f i. h f (in_right f (form_fluents e.1.form) (flat_map (λ (e : ℕ × Amount). form_fluents e.1.form) es) i)))
   where
     terms : (ts : List (ℕ × ℚ)) → ((f : ℕ) → is_in f (map (λ t. t.0) ts) ≡ true → P f) → AllByRecursion (λ t. P t.0) ts
     terms [] g = tt
-    terms (t ∷ ts) g = (g t.0 (ap (λ b. b || is_in t.0 (map (λ t. t.0) ts)) (is_itself t.0)), terms ts (λ f i. g f (is_in-second f (t.0 ∷ []) (map (λ t. t.0) ts) i)))
+    terms (t ∷ ts) g = (g t.0 (ap (λ b. b || is_in t.0 (map (λ t. t.0) ts)) (same_itself t.0)), terms ts (λ f i. g f (in_right f (t.0 ∷ []) (map (λ t. t.0) ts) i)))
 
 reads-append : (es fs : List (ℕ × Amount)) → flat_map (λ (e : ℕ × Amount). form_fluents e.1.form) (es ++ fs) ≡ flat_map (λ (e : ℕ × Amount). form_fluents e.1.form) es ++ flat_map (λ (e : ℕ × Amount). form_fluents e.1.form) fs
 reads-append es fs = flat_map-append (λ (e : ℕ × Amount). form_fluents e.1.form) es fs
 
 reads_first : (s : Snap) (f : ℕ) → is_in f (flat_map (λ (e : ℕ × Amount). form_fluents e.1.form) s.effect.assigns) ≡ true → is_in f (effect_reads s) ≡ true
-reads_first s f h = subst (λ l. is_in f l ≡ true) (sym (reads-append s.effect.assigns s.effect.increases)) (is_in-first f (flat_map (λ (e : ℕ × Amount). form_fluents e.1.form) s.effect.assigns) (flat_map (λ (e : ℕ × Amount). form_fluents e.1.form) s.effect.increases) h)
+reads_first s f h = subst (λ l. is_in f l ≡ true) (sym (reads-append s.effect.assigns s.effect.increases)) (is_in-left f (flat_map (λ (e : ℕ × Amount). form_fluents e.1.form) s.effect.assigns) (flat_map (λ (e : ℕ × Amount). form_fluents e.1.form) s.effect.increases) h)
 
 reads_second : (s : Snap) (f : ℕ) → is_in f (flat_map (λ (e : ℕ × Amount). form_fluents e.1.form) s.effect.increases) ≡ true → is_in f (effect_reads s) ≡ true
-reads_second s f h = subst (λ l. is_in f l ≡ true) (sym (reads-append s.effect.assigns s.effect.increases)) (is_in-second f (flat_map (λ (e : ℕ × Amount). form_fluents e.1.form) s.effect.assigns) (flat_map (λ (e : ℕ × Amount). form_fluents e.1.form) s.effect.increases) h)
+reads_second s f h = subst (λ l. is_in f l ≡ true) (sym (reads-append s.effect.assigns s.effect.increases)) (in_right f (flat_map (λ (e : ℕ × Amount). form_fluents e.1.form) s.effect.assigns) (flat_map (λ (e : ℕ × Amount). form_fluents e.1.form) s.effect.increases) h)
 
 module _ (task : TaskParts) (fits : (k : ℕ) → snap_fits task (snap_of task k) ≡ true) (k l : ℕ) (apart : tied_apart task (snap_of task k) (snap_of task l) ≡ false) where
   pub together : Together (snap_of task k) (snap_of task l)
   together = record {
-    facts = λ f h. or_right_out (is_in f (snap_of task l).effect.adds) (is_in f (snap_of task l).effect.deletes) (changed_once task fits k l apart f (or_first (is_in f (snap_of task k).effect.adds) (is_in f (snap_of task k).effect.deletes) h));
-    assigns = λ f h. second_apart task fits k l apart f (assigned_tracked task l f h) (or_first (marks task (snap_of task l) (token.Fluent f)) (looks task (snap_of task l) (token.Fluent f)) (assigned_marks task (snap_of task l) f h));
+    facts = λ f h. or_false_right (is_in f (snap_of task l).effect.adds) (is_in f (snap_of task l).effect.deletes) (changed_once task fits k l apart f (or_left (is_in f (snap_of task k).effect.adds) (is_in f (snap_of task k).effect.deletes) h));
+    assigns = λ f h. second_apart task fits k l apart f (assigned_tracked task l f h) (or_left (marks task (snap_of task l) (token.Fluent f)) (looks task (snap_of task l) (token.Fluent f)) (assigned_marks task (snap_of task l) f h));
     reads = (
       all_read (λ f. is_in f (written_fluents (snap_of task k)) ≡ false) (snap_of task l).effect.assigns (λ f h. read_apart f (reads_first (snap_of task l) f h)),
       all_read (λ f. is_in f (written_fluents (snap_of task k)) ≡ false) (snap_of task l).effect.increases (λ f h. read_apart f (reads_second (snap_of task l) f h)),
@@ -321,7 +287,7 @@ module _ (task : TaskParts) (fits : (k : ℕ) → snap_fits task (snap_of task k
   }
     where
       read_apart : (f : ℕ) → is_in f (effect_reads (snap_of task l)) ≡ true → is_in f (written_fluents (snap_of task k)) ≡ false
-      read_apart f h = second_apart task fits k l apart f (read_tracked task l f h) (or_second (marks task (snap_of task l) (token.Fluent f)) (looks task (snap_of task l) (token.Fluent f)) (read_looks task (snap_of task l) f h))
+      read_apart f h = second_apart task fits k l apart f (read_tracked task l f h) (or_right (marks task (snap_of task l) (token.Fluent f)) (looks task (snap_of task l) (token.Fluent f)) (read_looks task (snap_of task l) f h))
 
   module _ (free : tied_in_order task (snap_of task k) (snap_of task l) ≡ false) where
     fluent_free : (f : ℕ) → f < length task.fluents → is_in f (tracked_fluents task) ≡ true → sets_order task (snap_of task k) (snap_of task l) (token.Fluent f) ≡ false
@@ -338,18 +304,18 @@ module _ (task : TaskParts) (fits : (k : ℕ) → snap_fits task (snap_of task k
     second_unchanged : (f : ℕ) → is_in f (tracked_fluents task) ≡ true → (marks task (snap_of task l) (token.Fluent f) || looks task (snap_of task l) (token.Fluent f)) ≡ true → changes task (snap_of task k) f ≡ false
     second_unchanged f t e = ap₂ (λ a b. a || b) (second_apart task fits k l apart f t e)
         (flip_false task fits k l (is_in f (bent_fluents task (snap_of task k))) (λ b. not_both task fits k l (touches task (snap_of task l) (token.Fluent f)) (touching (snap_of task l) f e)
-        (bends_set (bends task (snap_of task k) (token.Fluent f)) (touches task (snap_of task k) (token.Fluent f)) (bends task (snap_of task l) (token.Fluent f)) (touches task (snap_of task l) (token.Fluent f)) (fluent_free f (changed_below task fits k f (or_second (is_in f (written_fluents (snap_of task k))) (is_in f (bent_fluents task (snap_of task k))) b)) t) b)))
+        (bends_set (bends task (snap_of task k) (token.Fluent f)) (touches task (snap_of task k) (token.Fluent f)) (bends task (snap_of task l) (token.Fluent f)) (touches task (snap_of task l) (token.Fluent f)) (fluent_free f (changed_below task fits k f (or_right (is_in f (written_fluents (snap_of task k))) (is_in f (bent_fluents task (snap_of task k))) b)) t) b)))
 
     first_unchanged : (f : ℕ) → is_in f (tracked_fluents task) ≡ true → (marks task (snap_of task k) (token.Fluent f) || looks task (snap_of task k) (token.Fluent f)) ≡ true → changes task (snap_of task l) f ≡ false
     first_unchanged f t e = ap₂ (λ a b. a || b) (first_apart task fits k l apart f t e)
         (flip_false task fits k l (is_in f (bent_fluents task (snap_of task l))) (λ b. not_both task fits k l (touches task (snap_of task k) (token.Fluent f)) (touching (snap_of task k) f e)
-        (touch_set (bends task (snap_of task k) (token.Fluent f)) (touches task (snap_of task k) (token.Fluent f)) (bends task (snap_of task l) (token.Fluent f)) (touches task (snap_of task l) (token.Fluent f)) (fluent_free f (changed_below task fits l f (or_second (is_in f (written_fluents (snap_of task l))) (is_in f (bent_fluents task (snap_of task l))) b)) t) b)))
+        (touch_set (bends task (snap_of task k) (token.Fluent f)) (touches task (snap_of task k) (token.Fluent f)) (bends task (snap_of task l) (token.Fluent f)) (touches task (snap_of task l) (token.Fluent f)) (fluent_free f (changed_below task fits l f (or_right (is_in f (written_fluents (snap_of task l))) (is_in f (bent_fluents task (snap_of task l))) b)) t) b)))
 
     pub independent : Independent task (snap_of task k) (snap_of task l)
     independent = record {
       facts = changed_once task fits k l apart;
-      first_assigns = λ f h. first_unchanged f (assigned_tracked task k f h) (or_first (marks task (snap_of task k) (token.Fluent f)) (looks task (snap_of task k) (token.Fluent f)) (assigned_marks task (snap_of task k) f h));
-      second_assigns = λ f h. second_unchanged f (assigned_tracked task l f h) (or_first (marks task (snap_of task l) (token.Fluent f)) (looks task (snap_of task l) (token.Fluent f)) (assigned_marks task (snap_of task l) f h));
+      first_assigns = λ f h. first_unchanged f (assigned_tracked task k f h) (or_left (marks task (snap_of task k) (token.Fluent f)) (looks task (snap_of task k) (token.Fluent f)) (assigned_marks task (snap_of task k) f h));
+      second_assigns = λ f h. second_unchanged f (assigned_tracked task l f h) (or_left (marks task (snap_of task l) (token.Fluent f)) (looks task (snap_of task l) (token.Fluent f)) (assigned_marks task (snap_of task l) f h));
       first_reads = (
         all_read (λ f. changes task (snap_of task l) f ≡ false) (snap_of task k).effect.assigns (λ f h. read_first f (reads_first (snap_of task k) f h)),
         all_read (λ f. changes task (snap_of task l) f ≡ false) (snap_of task k).effect.increases (λ f h. read_first f (reads_second (snap_of task k) f h)),
@@ -361,10 +327,10 @@ module _ (task : TaskParts) (fits : (k : ℕ) → snap_fits task (snap_of task k
     }
       where
         read_first : (f : ℕ) → is_in f (effect_reads (snap_of task k)) ≡ true → changes task (snap_of task l) f ≡ false
-        read_first f h = first_unchanged f (read_tracked task k f h) (or_second (marks task (snap_of task k) (token.Fluent f)) (looks task (snap_of task k) (token.Fluent f)) (read_looks task (snap_of task k) f h))
+        read_first f h = first_unchanged f (read_tracked task k f h) (or_right (marks task (snap_of task k) (token.Fluent f)) (looks task (snap_of task k) (token.Fluent f)) (read_looks task (snap_of task k) f h))
 
         read_second : (f : ℕ) → is_in f (effect_reads (snap_of task l)) ≡ true → changes task (snap_of task k) f ≡ false
-        read_second f h = second_unchanged f (read_tracked task l f h) (or_second (marks task (snap_of task l) (token.Fluent f)) (looks task (snap_of task l) (token.Fluent f)) (read_looks task (snap_of task l) f h))
+        read_second f h = second_unchanged f (read_tracked task l f h) (or_right (marks task (snap_of task l) (token.Fluent f)) (looks task (snap_of task l) (token.Fluent f)) (read_looks task (snap_of task l) f h))
 
 untied : (b : Bool) (A : Type 0) → (b ≡ true → A) → (A → ⊥) → b ≡ false
 untied true A f g = absurd (g (f refl))

@@ -23,7 +23,7 @@ use Rattle.task_types.proofs.Links.{link_comm}
 
 -- ---- members
 
-in_right : (f : ℕ) (xs ys : List ℕ) → is_in f ys ≡ true → is_in f (xs ++ ys) ≡ true
+pub in_right : (f : ℕ) (xs ys : List ℕ) → is_in f ys ≡ true → is_in f (xs ++ ys) ≡ true
 in_right f [] ys h = h
 in_right f (x ∷ xs) ys h = or_right (x == f) (is_in f (xs ++ ys)) (in_right f xs ys h)
 
@@ -49,7 +49,7 @@ meet_out (x ∷ xs) ys h = go (is_in x ys) refl h (meet_out xs ys)
     go true e l r = (x, or_left (x == x) (is_in x xs) (same_itself x), e)
     go false e l r = let k = r l in (k.0, or_right (x == k.0) (is_in k.0 xs) k.1, k.2)
 
-below_out : (n f : ℕ) (xs : List ℕ) → list_all (λ x. nat_lt x n) xs ≡ true → is_in f xs ≡ true → f < n
+pub below_out : (n f : ℕ) (xs : List ℕ) → list_all (λ x. nat_lt x n) xs ≡ true → is_in f xs ≡ true → f < n
 below_out n f [] h k = cc
 below_out n f (x ∷ xs) h k = go (x == f) refl k (below_out n f xs (and_right _ _ h))
   where

@@ -26,11 +26,11 @@ use Rattle.task_types.proofs.Formed.{IsOwned, timed, started, ended, at_once, sn
 
 -- ---- lists without repetition
 
-other_way : (a b : ℕ) → (a == b) ≡ (b == a)
+pub other_way : (a b : ℕ) → (a == b) ≡ (b == a)
 other_way a b = grind (arith, nat_tests)
 
 -- one more that isn't there
-distinct_more : (a : ℕ) (xs : List ℕ) → is_in a xs ≡ false → are_distinct xs ≡ true → are_distinct (xs ++ a ∷ []) ≡ true
+pub distinct_more : (a : ℕ) (xs : List ℕ) → is_in a xs ≡ false → are_distinct xs ≡ true → are_distinct (xs ++ a ∷ []) ≡ true
 distinct_more a [] h d = refl
 distinct_more a (x ∷ xs) h d = and_in (not (is_in x (xs ++ a ∷ []))) (are_distinct (xs ++ a ∷ [])) (ap not outside) (distinct_more a xs (or_false_right (x == a) (is_in a xs) h) (and_right (not (is_in x xs)) (are_distinct xs) d))
   where
@@ -40,7 +40,7 @@ distinct_more a (x ∷ xs) h d = and_in (not (is_in x (xs ++ a ∷ []))) (are_di
     outside : is_in x (xs ++ a ∷ []) ≡ false
     outside = list_any-append (λ y. y == x) xs (a ∷ []) ∙ neither (is_in x xs) (a == x) (not_true (is_in x xs) (and_left (not (is_in x xs)) (are_distinct xs) d)) (other_way a x ∙ or_false_left (x == a) (is_in a xs) h)
 
-chosen_not_in : (x : ℕ) (p : ℕ → Bool) (xs : List ℕ) → is_in x xs ≡ false → is_in x (filter p xs) ≡ false
+pub chosen_not_in : (x : ℕ) (p : ℕ → Bool) (xs : List ℕ) → is_in x xs ≡ false → is_in x (filter p xs) ≡ false
 chosen_not_in x p [] h = refl
 chosen_not_in x p (y ∷ ys) h = go (p y) (chosen_not_in x p ys (or_false_right (y == x) (is_in x ys) h))
   where
@@ -48,7 +48,7 @@ chosen_not_in x p (y ∷ ys) h = go (p y) (chosen_not_in x p ys (or_false_right 
     go true e = rw (or_false_left (y == x) (is_in x ys) h, e) refl
     go false e = e
 
-distinct_chosen : (p : ℕ → Bool) (xs : List ℕ) → are_distinct xs ≡ true → are_distinct (filter p xs) ≡ true
+pub distinct_chosen : (p : ℕ → Bool) (xs : List ℕ) → are_distinct xs ≡ true → are_distinct (filter p xs) ≡ true
 distinct_chosen p [] d = refl
 distinct_chosen p (x ∷ xs) d = go (p x) (distinct_chosen p xs (and_right (not (is_in x xs)) (are_distinct xs) d))
   where
@@ -56,10 +56,10 @@ distinct_chosen p (x ∷ xs) d = go (p x) (distinct_chosen p xs (and_right (not 
     go true e = and_in (not (is_in x (filter p xs))) (are_distinct (filter p xs)) (ap not (chosen_not_in x p xs (not_true (is_in x xs) (and_left (not (is_in x xs)) (are_distinct xs) d)))) e
     go false e = e
 
-abbrev without : ℕ → List ℕ → List ℕ
+abbrev pub without : ℕ → List ℕ → List ℕ
 without a xs = filter (λ b. not (is_in b (a ∷ []))) xs
 
-nothing_lost : (a : ℕ) (xs : List ℕ) → is_in a xs ≡ false → without a xs ≡ xs
+pub nothing_lost : (a : ℕ) (xs : List ℕ) → is_in a xs ≡ false → without a xs ≡ xs
 nothing_lost a [] h = refl
 nothing_lost a (x ∷ xs) h = rw (other_way a x, or_false_left (x == a) (is_in a xs) h) (ap (λ l. x ∷ l) (nothing_lost a xs (or_false_right (x == a) (is_in a xs) h)))
 
@@ -105,7 +105,7 @@ record Balanced (task : TaskParts) (done : List ℕ) : Type 0 where
   distinct : are_distinct (running task done) ≡ true
   balance : length (running task done) + counted ends task done ≡ counted starts task done
 
-running-more : (task : TaskParts) (done : List ℕ) (s : ℕ) → running task (done ++ s ∷ []) ≡ run_on (snap_of task s).kind (option_to_list (snap_of task s).action) (running task done)
+pub running-more : (task : TaskParts) (done : List ℕ) (s : ℕ) → running task (done ++ s ∷ []) ≡ run_on (snap_of task s).kind (option_to_list (snap_of task s).action) (running task done)
 running-more task done s = fold-append _ [] done (s ∷ [])
 
 -- one step more, by its kind, its action and whether that action runs
@@ -156,11 +156,11 @@ every_out (suc n) p k h l = elim (dec_lt k n) [ yes b ↦ every_out n p k (and_l
     same : (k < n → ⊥) → n ≡ k
     same b = omega arith
 
-take_done : (xs ys : List ℕ) → take (length xs) (xs ++ ys) ≡ xs
+pub take_done : (xs ys : List ℕ) → take (length xs) (xs ++ ys) ≡ xs
 take_done [] ys = refl
 take_done (x ∷ xs) ys = ap (λ l. x ∷ l) (take_done xs ys)
 
-at_done : (xs ys : List ℕ) (s : ℕ) → slice_index (xs ++ s ∷ ys) (length xs) ≡ s
+pub at_done : (xs ys : List ℕ) (s : ℕ) → slice_index (xs ++ s ∷ ys) (length xs) ≡ s
 at_done [] ys s = refl
 at_done (x ∷ xs) ys s = at_done xs ys s
 

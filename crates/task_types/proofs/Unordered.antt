@@ -37,7 +37,7 @@ every_seen : {X : Type 0} (u : X → X) (P : X → Type 0) → ((x : X) → P (u
 every_seen u P f [] h = tt
 every_seen u P f (x ∷ xs) h = (f x h.0, every_seen u P f xs h.1)
 
-every_reordered : {X : Type 0} (P : X → Type 0) (xs ys : List X) → IsPermutation xs ys → AllByRecursion P xs → AllByRecursion P ys
+pub every_reordered : {X : Type 0} (P : X → Type 0) (xs ys : List X) → IsPermutation xs ys → AllByRecursion P xs → AllByRecursion P ys
 every_reordered P = reordered (λ xs ys. AllByRecursion P xs → AllByRecursion P ys) (λ xs h. h) (λ xs ys zs f g h. g (f h)) (λ x xs ys f h. (h.0, f h.1)) (λ x y zs h. (h.1.0, (h.0, h.1.1)))
 
 -- what holds of each line

@@ -29,7 +29,7 @@ ends_at-sums : (q : ℚ) (rs : List ℚ) → ends_at q (sums q rs) ≡ fold (λ 
 ends_at-sums q [] = refl
 ends_at-sums q (r ∷ rs) = ends_at-sums (q +ℚ r) rs
 
-total-append : (xs ys : List ℚ) → total (xs ++ ys) ≡ total xs +ℚ total ys
+pub total-append : (xs ys : List ℚ) → total (xs ++ ys) ≡ total xs +ℚ total ys
 total-append [] ys = law ℚ_ring (total ys ∷ []) (λ t. t ≐ num 0 ⊕ t) refl
 total-append (x ∷ xs) ys = ap (λ q. x +ℚ q) (total-append xs ys) ∙ law ℚ_ring (x ∷ total xs ∷ total ys ∷ []) (λ x a b. x ⊕ (a ⊕ b) ≐ (x ⊕ a) ⊕ b) refl
 
