@@ -1,0 +1,9 @@
+pub mod Amounts
+pub mod Writes
+pub mod Happening
+pub mod Motions
+pub mod Advancing
+pub mod Runs
+pub mod Fitting
+pub mod Running
+pub mod Stepping
