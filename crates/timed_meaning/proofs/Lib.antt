@@ -7,3 +7,5 @@ pub mod Runs
 pub mod Fitting
 pub mod Running
 pub mod Stepping
+pub mod Left
+pub mod Built

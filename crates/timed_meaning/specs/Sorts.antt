@@ -1,9 +1,9 @@
 -- Private: steps in the order of their times.
-use Rattle.std.specs.Prelude.{◌≡◌, false, if◌then◌else◌, List, [], ◌∷◌}
+use Rattle.std.specs.Prelude.{◌≡◌, false, if◌then◌else◌, List, [], ◌∷◌, map}
 use Rattle.std.specs.List.{AllByRecursion, filter}
 use Rattle.rational.specs.Rational.{ℚ, ◌≤ℚ◌}
 use Rattle.task_types.specs.Tests.{◌=?◌}
-use Rattle.task_types.specs.Plan.{Plan, Step}
+use Rattle.task_types.specs.Plan.{Plan, Step, ascending}
 use Rattle.task_types.specs.Course.{runs_between}
 use Rattle.task_types.specs.Reckoned.{by_start}
 
@@ -15,6 +15,15 @@ NeverFall (x ∷ xs) = AllByRecursion (λ y. x.time ≤ℚ y.time) xs × NeverFa
 -- the steps at a time, in their order
 abbrev pub at_time : ℚ → List Step → List Step
 at_time t steps = filter (λ s. s.time =? t) steps
+
+-- The second list has the steps of the first by their times, those of one time in their order.
+pub record AreSorted (steps sorted : List Step) : Type 0 where
+  pub falls : NeverFall sorted
+  pub stable : (t : ℚ) → at_time t sorted ≡ at_time t steps
+
+-- the distinct times of some steps, ascending
+abbrev pub times : List Step → List ℚ
+times steps = ascending (map (λ s. s.time) steps)
 
 -- the steps of a list before the first of another time, and the rest
 abbrev pub run : ℚ → List Step → List Step

@@ -19,6 +19,10 @@ use Rattle.exact_lin.specs.Reckonings.{Reckoning, Sum, AreDefined}
 abbrev pub step_code : Coded Step
 step_code = code_by (ℚ × (ℕ × ℚ)) (coded× ℚ_code (coded× coded_ℕ ℚ_code)) (λ s. (s.time, (s.snap, s.duration))) (λ p. record { time = p.0; snap = p.1.0; duration = p.1.1 }) (λ _. refl)
 
+-- the step of a moment of the task
+abbrev pub timed_step : ℚ × ℕ → Step
+timed_step t = record { time = t.0; snap = t.1; duration = zeroℚ }
+
 -- the state that two lists tell
 abbrev pub told : List Bool → List ℚ → State
 told facts fluents = record { facts = λ f. slice_index_or facts f false; fluents = λ f. slice_index_or fluents f zeroℚ }

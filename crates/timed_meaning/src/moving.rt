@@ -16,7 +16,8 @@ use crate::applying::{raise, sum};
 use exact_lin::{FluentId, FormFault, Fraction, Id, Scalar, SnapId};
 use task_types::{Action, PlanLine, TaskParts};
 
-fn action<'a>(parts: &'a TaskParts, line: &PlanLine) -> &'a Action
+// The action of a line.
+pub fn action<'a>(parts: &'a TaskParts, line: &PlanLine) -> &'a Action
     requires { line.now.action < length parts.now.actions }
     ensures { result.now ≡ action_of parts.now line.now.action }
 {
