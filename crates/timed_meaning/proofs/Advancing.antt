@@ -1,7 +1,7 @@
 -- A move in place: the lists tell the moved state where they told the state before.
 use Rattle.std.proofs.Common.{◌≡◌, refl, sym, ap, subst, ◌∙◌, ℕ, zero, suc, ◌<◌, Bool, true, false, cond, ◌||◌, ◌==◌, List, [], ◌∷◌, ◌++◌, length, map, replicate, arith}
 use Rattle.std.specs.Prelude.{slice_index_or, fold, None, slice_get, Result, Ok, Err}
-use Rattle.std.specs.List.{AllByRecursion, filter, flat_map}
+use Rattle.std.specs.List.{AllByRecursion, filter, flat_map, range_with_len}
 use Rattle.std.proofs.lemmas.List.{length-set, length-replicate, same_lists, get_or_default}
 use Rattle.std.proofs.Math.Path.{fun_ext}
 use native.Mathlib.Decide.{dec_lt}
@@ -74,7 +74,7 @@ module _ (task : TaskParts) (w : IsWellMade task) where
   entries-rates [] f = refl
   entries-rates (l ∷ ls) f = entries-append task f (rates_on task l) (flat_map (rates_on task) ls) ∙ ap (λ r. rates_of task l f ++ r) (entries-rates ls f)
 
-  module _ (plan : Plan) (from to : ℚ) (facts : List Bool) (xs : List ℚ) (n : length xs ≡ length task.fluents) (some : 0 < length task.fluents) (fits : AllByRecursion (Fits wide_limit) xs) where
+  module _ (plan : Plan) (from to : ℚ) (facts : List Bool) (xs : List ℚ) (n : length xs ≡ length task.fluents) (fits : AllByRecursion (Fits wide_limit) xs) where
     abbrev pub es : List (ℕ × ℚ)
     es = flat_map (rates_on task) (by_start (filter (runs_between from to) plan))
 
@@ -140,8 +140,8 @@ module _ (task : TaskParts) (w : IsWellMade task) where
     each : Defined (move_reckoned task plan from to (told facts xs)) → (f : ℕ) → f < length task.fluents → Defined (move_of task plan from to (told facts xs) f)
     each d f h = one_number task (move_of task plan from to (told facts xs)) 0 (length task.fluents) f (omega arith) (omega (arith, h)) d
 
-    pub move-elapsed : Defined (move_reckoned task plan from to (told facts xs)) → Defined (Sum to (neg_ℚ from) ∷ [])
-    move-elapsed d = ((each_right (IsDefined wide_limit) (rate_reckoned task plan from to 0) (tail_of (rate task plan from to 0) 0) (each d 0 some)).0, tt)
+    pub move-elapsed : 0 < length task.fluents → Defined (move_reckoned task plan from to (told facts xs)) → Defined (Sum to (neg_ℚ from) ∷ [])
+    move-elapsed some d = ((each_right (IsDefined wide_limit) (rate_reckoned task plan from to 0) (tail_of (rate task plan from to 0) 0) (each d 0 some)).0, tt)
 
     pub move-out : Defined (move_reckoned task plan from to (told facts xs)) → Defined (raised_reckoned zeros es ++ settled_reckoned el p es)
     move-out d = append-in (raised_reckoned zeros es) (settled_reckoned el p es) (own-out zeros es zeros-below own_sums) (each-own el p es ranged fit own)
@@ -151,6 +151,17 @@ module _ (task : TaskParts) (w : IsWellMade task) where
 
         own : (f : ℕ) → Own el p f
         own f = elim (dec_lt f (length task.fluents)) [ yes l ↦ subst (λ r. Defined (Product r el ∷ Sum (at xs f) (r *ℚ el) ∷ [])) (sym (rate-is f)) (each_right (IsDefined wide_limit) (rate_reckoned task plan from to f) (tail_of (rate task plan from to f) f) (each d f l)).1 | no l ↦ own-still el p f (fit f) (rate-fold f ∙ ap (λ l. fold (λ q r. q +ℚ r) zeroℚ l) (entries-none task (length task.fluents) f es (omega (arith, l)) (below-flat (by_start (filter (runs_between from to) plan))))) ]
+
+    -- a task without fluents moves nothing, and reckons nothing for it
+    no-entries : (m : ℕ) (ns : List (ℕ × ℚ)) → m ≡ 0 → Below m ns → ns ≡ []
+    no-entries m [] z h = refl
+    no-entries m (e ∷ ns) z h = let l : e.0 < m = h.0 in absurd (omega (arith, l, z))
+
+    pub unmoved : length task.fluents ≡ 0 → Defined (move_reckoned task plan from to (told facts xs)) × (told facts xs ≡ moved task plan from to (told facts xs))
+    unmoved z = (
+      subst (λ m. Defined (flat_map (move_of task plan from to (told facts xs)) (range_with_len 0 m))) (sym z) tt,
+      sym (ap (λ (ns : List (ℕ × ℚ)). told facts (settled el (record { values = xs; rates = raised zeros ns }) ns).values) (no-entries (length task.fluents) es z (below-flat (by_start (filter (runs_between from to) plan))))) ∙ moved-told,
+    )
 
     -- the last call of a move tells all of it
     pub moves : {A : Type 0} (r : Result A FormFault) (elapsed : ℚ) (before now after : List ℚ) (entries : List (ℕ × ℚ)) → Defined (Sum to (neg_ℚ from) ∷ []) → elapsed ≡ el → before ≡ zeros → entries ≡ es

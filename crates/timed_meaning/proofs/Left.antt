@@ -18,6 +18,7 @@ use Rattle.task_types.proofs.Comparisons.{eq_in, eq_out}
 use Rattle.task_types.proofs.Instants.{ascending-Ascends}
 use Rattle.task_types.proofs.Happenings.{Among, ascending-among, among-ascending, one_ascending}
 use Rattle.task_types.proofs.Everyone.{all_both, all_tabulate}
+use Rattle.timed_meaning.specs.Agendas.{Left, run_end}
 use Rattle.timed_meaning.specs.Sorts.{NeverFall, at_time, run, after_run, times, AreSorted}
 use Rattle.timed_meaning.proofs.Runs.{runs}
 
@@ -163,11 +164,6 @@ happenings-sorted task plan sorted a = times-sorted (steps task plan) sorted a
 
 -- ---- what is left at happening k
 
-pub record Left (task : TaskParts) (plan : Plan) (k : ℕ) (rest : List Step) : Type 0 where
-  pub falls : NeverFall rest
-  pub times_left : times rest ≡ drop k (happenings task plan)
-  pub steps_left : AllByRecursion (λ t. at_time t rest ≡ steps_at task plan t) (times rest)
-
 pub Left-begin : (task : TaskParts) (plan : Plan) (sorted : List Step) → AreSorted (steps task plan) sorted → Left task plan 0 sorted
 Left-begin task plan sorted a = record { falls = a.falls; times_left = happenings-sorted task plan sorted a; steps_left = all_tabulate (λ t. at_time t sorted ≡ steps_at task plan t) (times sorted) a.stable }
 
@@ -227,3 +223,25 @@ Left-end task plan k l = past (happenings task plan) k (sym l.times_left)
     past [] k e = omega arith
     past (t ∷ ts) zero e = cc
     past (t ∷ ts) (suc k) e = let r = past ts k e in omega (arith, r)
+
+-- ---- from one happening to the next
+
+Left-past : (task : TaskParts) (plan : Plan) (k : ℕ) → Left task plan k [] → Left task plan (suc k) []
+Left-past task plan k l = record { falls = tt; times_left = sym (past (happenings task plan) k (sym l.times_left)); steps_left = tt }
+  where
+    past : (ts : List ℚ) (k : ℕ) → drop k ts ≡ [] → drop (suc k) ts ≡ []
+    past [] k e = refl
+    past (t ∷ ts) zero e = cc
+    past (t ∷ []) (suc k) e = refl
+    past (t ∷ u ∷ us) (suc k) e = past (u ∷ us) k e
+
+pub Left-onward : (task : TaskParts) (plan : Plan) (k : ℕ) (rest : List Step) → Left task plan k rest → Left task plan (suc k) (drop (run_end rest) rest)
+Left-onward task plan k [] l = Left-past task plan k l
+Left-onward task plan k (x ∷ xs) l = subst (Left task plan (suc k)) (sym (drop-run x.time (x ∷ xs))) (Left-next task plan k x xs l)
+
+pub Left-run : (task : TaskParts) (plan : Plan) (k : ℕ) (x : Step) (xs : List Step) → Left task plan k (x ∷ xs) → take (run_end (x ∷ xs)) (x ∷ xs) ≡ steps_at task plan (time_of task plan k)
+Left-run task plan k x xs l = take-run x.time (x ∷ xs) ∙ left-here task plan k x xs l
+
+pub run_end-within : (rest : List Step) → run_end rest ≤ length rest
+run_end-within [] = omega arith
+run_end-within (x ∷ xs) = length-run x.time (x ∷ xs)

@@ -9,3 +9,4 @@ pub mod Running
 pub mod Stepping
 pub mod Left
 pub mod Built
+pub mod Starts

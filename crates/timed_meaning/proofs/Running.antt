@@ -11,7 +11,7 @@ use Rattle.task_types.specs.Reckoned.{put_by_start, by_start}
 use Rattle.task_types.proofs.Comparisons.{le_in, le_out, later_out}
 
 -- starts never fall
-abbrev Rises : Plan → Type 0
+abbrev pub Rises : Plan → Type 0
 Rises [] = Unit {0}
 Rises (l ∷ ls) = AllByRecursion (λ m. l.at ≤ℚ m.at) ls × Rises ls
 

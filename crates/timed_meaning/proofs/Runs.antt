@@ -19,11 +19,11 @@ less_same Less = refl
 less_same Equal = refl
 less_same Greater = refl
 
-lt_bool : (q r : ℚ) → is_lt (cmp_ℚ q r) ≡ (q <? r)
+pub lt_bool : (q r : ℚ) → is_lt (cmp_ℚ q r) ≡ (q <? r)
 lt_bool q r = less_same (cmp_ℚ q r)
 
 -- neither is below the other exactly where they are equal
-tie_is : (t q : ℚ) → (not (is_lt (cmp_ℚ t q)) && not (is_lt (cmp_ℚ q t))) ≡ (q =? t)
+pub tie_is : (t q : ℚ) → (not (is_lt (cmp_ℚ t q)) && not (is_lt (cmp_ℚ q t))) ≡ (q =? t)
 tie_is t q = rw (lt_bool t q, lt_bool q t) (go (t <? q) (q <? t) (q =? t) refl refl refl)
   where
     go : (a b c : Bool) → (t <? q) ≡ a → (q <? t) ≡ b → (q =? t) ≡ c → (not a && not b) ≡ c

@@ -1,19 +1,17 @@
--- Private: states told by two lists, answers told by what is reckoned, and how lists are written.
-use Rattle.exact_lin.specs.Reckoning.{wide_limit}
-use Rattle.std.specs.Prelude.{ℕ, ◌<◌, Bool, true, false, List, [], ◌∷◌, map, length, slice_index_or, slice_set, refl, Result, Ok, Err}
+-- Private: how the lists of a state are written.
+use Rattle.std.specs.Prelude.{ℕ, ◌<◌, Bool, true, false, List, [], ◌∷◌, map, length, slice_index_or, slice_set, refl}
 use Rattle.std.specs.List.{AllByRecursion, flat_map}
 use Rattle.std.specs.Coded.{Coded, code_by, coded×, coded_ℕ}
 use Rattle.rational.specs.Rational.{ℚ, zeroℚ, ◌+ℚ◌}
 use Rattle.exact_lin.specs.Reckoning.{ℚ_code}
-use Rattle.exact_lin.specs.declared.faults.FormFault.{FormFault}
-use Rattle.exact_lin.specs.declared.faults.FormFault.TheVariants.{Wide, Memory}
 use Rattle.exact_lin.specs.Forms.{Covers}
 use Rattle.task_types.specs.declared.conditions.Amount.{Amount}
 use Rattle.task_types.specs.declared.parts.TaskParts.{TaskParts}
 use Rattle.task_types.specs.Course.{amount, effect_of}
 use Rattle.task_types.specs.State.{State}
 use Rattle.task_types.specs.Plan.{Step}
-use Rattle.exact_lin.specs.Reckonings.{Reckoning, Sum, AreDefined}
+use Rattle.exact_lin.specs.Reckonings.{Reckoning, Sum}
+pub use Rattle.timed_meaning.specs.Answers.{told, Defined, Tells}
 
 -- a step is stored as its time, its snap action and its duration
 abbrev pub step_code : Coded Step
@@ -23,23 +21,9 @@ step_code = code_by (ℚ × (ℕ × ℚ)) (coded× ℚ_code (coded× coded_ℕ �
 abbrev pub timed_step : ℚ × ℕ → Step
 timed_step t = record { time = t.0; snap = t.1; duration = zeroℚ }
 
--- the state that two lists tell
-abbrev pub told : List Bool → List ℚ → State
-told facts fluents = record { facts = λ f. slice_index_or facts f false; fluents = λ f. slice_index_or fluents f zeroℚ }
-
 -- a state of which only the fluents are read
 abbrev pub valued : List ℚ → State
 valued fluents = told [] fluents
-
--- every reckoning of the list is defined
-abbrev pub Defined : List Reckoning → Type 0
-Defined rs = AreDefined wide_limit rs
-
--- the answer is Ok only where the reckonings are defined and it is right, and Wide only where one is undefined
-abbrev pub Tells : {A : Type 0} → Result A FormFault → List Reckoning → (A → Type 0) → Type 0
-Tells (Ok x) rs Right = Defined rs × Right x
-Tells (Err Wide) rs Right = ¬ (Defined rs)
-Tells (Err Memory) rs Right = Unit {0}
 
 -- a list with one value at some places
 abbrev pub marked : Bool → List Bool → List ℕ → List Bool

@@ -24,12 +24,12 @@ shift-requires-clause-rate c =
 pub returns-in-Ok-sum-clause-state : goal.returns-in-Ok-sum-clause-state
 returns-in-Ok-sum-clause-state c =
     let entries_are : c.as_slice.result.now ≡ flat_map (rates_on c.args.parts.now) c.args.running.now = c.as_slice.ensures.value ∙ c.in-Ok.ensures.1 ∙ ap (λ l. l ++ flat_map (rates_on c.args.parts.now) c.args.running.now) c.clear.ensures.items in
-    λ facts plan q. moves c.args.parts.now c.requires.well_made plan c.args.from c.args.to facts c.args.values.now c.requires.values c.requires.some c.requires.fits c.shift.result c.in-Ok-sum.elapsed c.args.rates.now c.shift.new.values c.shift.new.rates c.as_slice.result.now
+    λ facts plan q. moves c.args.parts.now c.requires.well_made plan c.args.from c.args.to facts c.args.values.now c.requires.values c.requires.fits c.shift.result c.in-Ok-sum.elapsed c.args.rates.now c.shift.new.values c.shift.new.rates c.as_slice.result.now
     (subst (λ m. Defined (Sum c.args.to m ∷ [])) c.neg.ensures c.in-Ok-sum.ensures.0) (c.in-Ok-sum.ensures.1 ∙ ap (λ m. c.args.to +ℚ m) c.neg.ensures) c.requires.rates (entries_are ∙ ap (flat_map (rates_on c.args.parts.now)) q) c.shift.ensures
 
 pub returns-in-Err-sum-clause-state : goal.returns-in-Err-sum-clause-state
 returns-in-Err-sum-clause-state c = λ facts plan q. part-fault c.in-Err-sum.fault _ _ _ _
-    (λ d. subst (λ m. Defined (Sum c.args.to m ∷ [])) (sym c.neg.ensures) (move-elapsed c.args.parts.now c.requires.well_made plan c.args.from c.args.to facts c.args.values.now c.requires.values c.requires.some c.requires.fits d)) c.in-Err-sum.ensures
+    (λ d. subst (λ m. Defined (Sum c.args.to m ∷ [])) (sym c.neg.ensures) (move-elapsed c.args.parts.now c.requires.well_made plan c.args.from c.args.to facts c.args.values.now c.requires.values c.requires.fits c.requires.some d)) c.in-Err-sum.ensures
 
 pub returns-in-Ok-sum-clause-fits : goal.returns-in-Ok-sum-clause-fits
 returns-in-Ok-sum-clause-fits c = fits-shifted c.shift.result (raised_reckoned c.args.rates.now c.as_slice.result.now) c.in-Ok-sum.elapsed (record { values = c.args.values.now; rates = raised c.args.rates.now c.as_slice.result.now }) c.as_slice.result.now c.shift.new.values c.shift.new.rates c.requires.fits c.shift.ensures
