@@ -5,8 +5,10 @@ use Rattle.std.specs.List.{AllByRecursion, filter}
 use Rattle.std.specs.Ordering.{is_lt}
 use Rattle.std.specs.List.Sorted.{IsSortedBy, ties}
 use Rattle.rational.specs.Rational.{ℚ, ◌≤ℚ◌, ◌<ℚ◌, cmp_ℚ}
-use Rattle.rational.proofs.Inequalities.{le_trans, lt_le_trans, le_or_gt, le_antisymm}
+use Rattle.rational.proofs.Inequalities.{le_trans, lt_le_trans}
 use Rattle.rational.proofs.Order.{lt_irrefl}
+use Rattle.rational.proofs.Order.{le_or_gt}
+use Rattle.rational.proofs.Order.{le_antisymm}
 use Rattle.task_types.specs.declared.plans.PlanLine.{PlanLine}
 use Rattle.task_types.specs.Tests.{◌=?◌, ◌<?◌, ◌≤?◌}
 use Rattle.task_types.specs.Plan.{Plan}

@@ -43,16 +43,24 @@ fn runs_between(line: &PlanLine, from: Fraction, to: Fraction) -> bool
     is_at_most(line.at, from) && is_at_most(to, end_of(line))
 }
 
-// The line again; a copy of one field after the other, since a whole line behind a reference isn't copied.
-fn same_line(line: &PlanLine) -> PlanLine
-    ensures { result ≡ line.now }
+// Puts a line at the end, part by part: its duration is handed over by itself.
+fn push_parts(
+    out: &mut Vec<PlanLine>,
+    line: &PlanLine,
+    duration: Option<Fraction>,
+) -> Result<(), NoMemory>
+    requires { duration ≡ line.now.duration }
+    ensures { OnOk result (out.new.items ≡ out.old.items ++ line.now ∷ []) }
 {
-    let duration: Option<Fraction> = line.duration;
-    PlanLine {
+    let same = PlanLine {
         action: line.action,
         at: line.at,
         duration,
         line: line.line,
+    };
+    match out.push(same) {
+        Ok(()) => Ok(()),
+        Err(_) => Err(NoMemory),
     }
 }
 
@@ -66,7 +74,7 @@ fn push_running(
     ensures { OnOk result (out.new.items ≡ out.old.items ++ filter (runs_between from to) (line.now ∷ [])) }
 {
     if runs_between(line, from, to) {
-        out.push(same_line(line))?;
+        return push_parts(out, line, line.duration);
     }
     Ok(())
 }
