@@ -10,3 +10,5 @@ pub mod Stepping
 pub mod Left
 pub mod Built
 pub mod Starts
+pub mod Known
+pub mod Onward

@@ -1,5 +1,5 @@
--- Private: steps in the order of their times.
-use Rattle.std.specs.Prelude.{◌≡◌, false, if◌then◌else◌, List, [], ◌∷◌, map}
+-- Believed: steps in the order of their times.
+use Rattle.std.specs.Prelude.{◌≡◌, false, if◌then◌else◌, List, [], ◌∷◌, map, IsPermutation}
 use Rattle.std.specs.List.{AllByRecursion, filter}
 use Rattle.rational.specs.Rational.{ℚ, ◌≤ℚ◌}
 use Rattle.task_types.specs.Tests.{◌=?◌}
@@ -20,6 +20,7 @@ at_time t steps = filter (λ s. s.time =? t) steps
 pub record AreSorted (steps sorted : List Step) : Type 0 where
   pub falls : NeverFall sorted
   pub stable : (t : ℚ) → at_time t sorted ≡ at_time t steps
+  pub permutation : IsPermutation steps sorted
 
 -- the distinct times of some steps, ascending
 abbrev pub times : List Step → List ℚ
