@@ -19,6 +19,7 @@ use Rattle.timed_meaning.specs.TimedPlans.{EndIsDefined}
 use Rattle.timed_meaning.specs.Agendas.{Left, run_end, time_at, running_lines, here_of, IsAt}
 use Rattle.timed_meaning.proofs.Left.{left-in, left-time, Left-onward, Left-run, Left-end, run-first, run_end-within}
 use Rattle.timed_meaning.proofs.Known.{filter-each}
+use Rattle.timed_meaning.proofs.Running.{running-is}
 
 -- what is left from a place on begins with the time of its happening
 left-at : (task : TaskParts) (plan : Plan) (k : ℕ) (xs : List Step) (i : ℕ) → i < length xs → Left task plan k (drop i xs) → (time_of task plan k ≡ time_at xs i) × (k < count task plan)
@@ -123,3 +124,8 @@ module _ (task : TaskParts) (plan : Plan) where
         go : (rest : List Step) → 0 < length rest → Left task plan a.place rest → take (run_end rest) rest ≡ steps_at task plan (time_of task plan a.place)
         go [] h l = absurd (omega arith)
         go (x ∷ xs) h l = Left-run task plan a.place x xs l
+
+    -- the running lines of the agenda, between the times that its steps have
+    pub running-lines : suc a.place < count task plan → (from to : ℚ) → from ≡ time_of task plan a.place → to ≡ time_of task plan (suc a.place) → a.running.items ≡ by_start (filter (runs_between from to) plan)
+    running-lines h from to f t = at.running h ∙ sym (running-is (runs_between (time_of task plan a.place) (time_of task plan (suc a.place))) plan)
+        ∙ ap (λ u. by_start (filter (runs_between (time_of task plan a.place) u) plan)) (sym t) ∙ ap (λ u. by_start (filter (runs_between u to) plan)) (sym f)
