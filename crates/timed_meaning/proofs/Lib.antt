@@ -12,3 +12,4 @@ pub mod Built
 pub mod Starts
 pub mod Known
 pub mod Onward
+pub mod Courses

@@ -2,9 +2,10 @@
 use Rattle.std.specs.Prelude.{ℕ, ◌≡◌, Bool, false, List, length, slice_index_or, Result, Ok, Err}
 use Rattle.rational.specs.Rational.{ℚ, zeroℚ}
 use Rattle.exact_lin.specs.Reckoning.{wide_limit}
-use Rattle.exact_lin.specs.Reckonings.{Reckoning, AreDefined, AllDefined, IsFirstUndefined}
+use Rattle.exact_lin.specs.Reckonings.{Reckoning, AreDefined}
 use Rattle.exact_lin.specs.declared.faults.FormFault.{FormFault}
 use Rattle.exact_lin.specs.declared.faults.FormFault.TheVariants.{Wide, Memory}
+use Rattle.task_types.specs.declared.parts.TaskParts.{TaskParts}
 use Rattle.task_types.specs.State.{State}
 
 -- The state that two lists tell: which facts hold, and the values of the fluents, by their numbers. Past the lists no
@@ -21,3 +22,12 @@ abbrev pub Tells : {A : Type 0} → Result A FormFault → List Reckoning → (A
 Tells (Ok x) rs Right = Defined rs × Right x
 Tells (Err Wide) rs Right = ¬ (Defined rs)
 Tells (Err Memory) rs Right = Unit {0}
+
+-- The lists tell the facts and the fluents of a state of a task, each as long as the task's.
+pub record Facts (task : TaskParts) (facts : List Bool) (s : State) : Type 0 where
+  pub covers : length facts ≡ length task.facts
+  pub tells : (λ f. slice_index_or facts f false) ≡ s.facts
+
+pub record Fluents (task : TaskParts) (fluents : List ℚ) (s : State) : Type 0 where
+  pub covers : length fluents ≡ length task.fluents
+  pub tells : (λ f. slice_index_or fluents f zeroℚ) ≡ s.fluents
