@@ -149,7 +149,7 @@ impl Sweep {
         ensures { (task : TaskParts) (plan : Plan) → IsAt task plan self.now.agenda
             → IsTrue result ↔ (suc self.now.agenda.place < count task plan) }
     {
-        self.agenda.next < self.agenda.steps.len()
+        self.agenda.next < self.agenda.steps.as_slice().len()
     }
 
     /// The lines that run from this happening to the next, in the order of their starts.
