@@ -13,3 +13,4 @@ pub mod Starts
 pub mod Known
 pub mod Onward
 pub mod Courses
+pub mod Showing

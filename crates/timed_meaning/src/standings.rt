@@ -14,6 +14,7 @@ ghost use Rattle.timed_meaning.specs.Standings.{shown, IsKept};
 
 use crate::applying::happen;
 use crate::moving::advance;
+use crate::states::State;
 use crate::steps::PlanStep;
 use exact_lin::{FluentId, FormFault, Fraction, NoMemory, Scalar};
 use std::alloc::Global;
@@ -133,5 +134,16 @@ impl Standing {
             &mut self.rates,
             &mut self.entries,
         )
+    }
+
+    /// The state by itself.
+    pub fn into_state(self) -> State
+        ensures { (result.facts.items ≡ self.facts.items)
+            × (result.fluents.items ≡ self.fluents.items) }
+    {
+        State {
+            facts: self.facts,
+            fluents: self.fluents,
+        }
     }
 }

@@ -168,9 +168,7 @@ impl Sweep {
         ensures { (result.facts.items ≡ self.standing.facts.items)
             × (result.fluents.items ≡ self.standing.fluents.items) }
     {
-        State {
-            facts: self.standing.facts,
-            fluents: self.standing.fluents,
-        }
+        let standing = self.standing;
+        standing.into_state()
     }
 }
