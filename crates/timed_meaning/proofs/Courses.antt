@@ -1,11 +1,15 @@
 -- A course gone along place by place.
 use Rattle.std.proofs.Common.{◌≡◌, refl, sym, ap, subst, ◌∙◌, ℕ, zero, suc, ◌+◌, ◌-◌, ◌<◌, ◌≤◌, List, [], ◌∷◌, ◌++◌, inl, inr, arith, add-one}
-use Rattle.std.specs.Prelude.{◌⊎◌}
+use Rattle.std.specs.Prelude.{◌⊎◌, Result, Err}
+use Rattle.task_types.specs.State as meaning
+use Rattle.timed_meaning.specs.declared.faults.MeaningFault.{MeaningFault}
+use Rattle.timed_meaning.specs.declared.faults.MeaningFault.TheVariants.{Wide, Memory}
+use Rattle.timed_meaning.specs.States.{Gives, Reaches}
 use Rattle.exact_lin.specs.Reckoning.{wide_limit}
 use Rattle.exact_lin.specs.Reckonings.{Reckoning, AllDefined, IsFirstUndefined}
 use Rattle.task_types.specs.declared.parts.TaskParts.{TaskParts}
 use Rattle.task_types.specs.Plan.{Plan}
-use Rattle.task_types.specs.Reckoned.{course_before, effects_at, move_at}
+use Rattle.task_types.specs.Reckoned.{course_before, course_after, effects_at, move_at}
 use Rattle.task_types.proofs.Places.{map-numbers-more}
 use Rattle.timed_meaning.specs.Answers.{Defined}
 
@@ -40,3 +44,8 @@ module _ (task : TaskParts) (plan : Plan) where
   pub course-stop : (j k : ℕ) → j < k → AllDefined wide_limit (course_before task plan j) → ¬ (Defined (effects_at task plan j ++ move_at task plan j)) → IsFirstUndefined wide_limit (course_before task plan k) j
   course-stop j k l h n = subst (λ i. IsFirstUndefined wide_limit (course_before task plan i) j) (let e : j + 1 + (k - (j + 1)) ≡ k = omega (arith, l) in e)
       (later j (k - (j + 1)) (subst (λ (ps : Course). IsFirstUndefined wide_limit ps j) (sym (course-more j)) (stop-put (course_before task plan j) j (effects_at task plan j ++ move_at task plan j) h n)))
+
+  -- a fault on the way to a happening is one on the way to its effects
+  pub passed-on : (k : ℕ) (f : MeaningFault) (meant : meaning.State) → Reaches (Err f) task plan k → Gives (Err f) task (course_after task plan k) meant
+  passed-on k (Wide j) meant u = first-put (course_before task plan k) k (effects_at task plan k) j u
+  passed-on k Memory meant u = tt
