@@ -109,7 +109,7 @@ pub times-next : (rest new : List Step) (x : Step) (xs : List Step) (t : ℚ) (o
 times-next rest new x xs t out noted all r e n p h = (
   subst NeverFall (sym new_is) (falls-after x.time (x ∷ xs) falls),
   ap (λ l. l ++ times new) p ∙ append_assoc out (t ∷ []) (times new) ∙ ap (λ q. out ++ (q ∷ times new)) e ∙ ap (λ l. out ++ (x.time ∷ times l)) new_is
-  ∙ ap (λ l. out ++ l) (sym (times-run x xs falls)) ∙ ap (λ l. out ++ times l) (sym r) ∙ h.1,
+      ∙ ap (λ l. out ++ l) (sym (times-run x xs falls)) ∙ ap (λ l. out ++ times l) (sym r) ∙ h.1,
 )
   where
     new_is : new ≡ after_run x.time (x ∷ xs)

@@ -13,8 +13,8 @@ ghost use Rattle.timed_meaning.specs.Agendas.{run_end, time_at, running_lines};
 
 use crate::listing::{end_of, sorted_steps};
 use crate::steps::PlanStep;
-use exact_lin::{Fraction, NoMemory, Scalar};
 use crate::times::run_length;
+use exact_lin::{Fraction, NoMemory, Scalar};
 use std::alloc::Global;
 use std::cmp::Ordering;
 use task_types::{PlanLine, TaskParts};

@@ -39,11 +39,7 @@ pub fn end_of(line: &PlanLine) -> Fraction
     }
 }
 
-fn push_end(
-    out: &mut Vec<PlanStep>,
-    line: &PlanLine,
-    end: Option<SnapId>,
-) -> Result<(), NoMemory>
+fn push_end(out: &mut Vec<PlanStep>, line: &PlanLine, end: Option<SnapId>) -> Result<(), NoMemory>
     requires { EndIsDefined line.now }
     ensures { OnOk result (out.new.items ≡ out.old.items ++ end_step line.now end) }
 {
@@ -59,11 +55,7 @@ fn push_end(
     Ok(())
 }
 
-fn push_start(
-    out: &mut Vec<PlanStep>,
-    line: &PlanLine,
-    snap: SnapId,
-) -> Result<(), NoMemory>
+fn push_start(out: &mut Vec<PlanStep>, line: &PlanLine, snap: SnapId) -> Result<(), NoMemory>
     ensures { OnOk result (out.new.items ≡ out.old.items
         ++ record { time = line.now.at; snap = snap; duration = duration_of line.now } ∷ []) }
 {
@@ -107,11 +99,7 @@ fn push_plan_steps(
     Ok(())
 }
 
-fn push_timed_step(
-    out: &mut Vec<PlanStep>,
-    time: Fraction,
-    snap: SnapId,
-) -> Result<(), NoMemory>
+fn push_timed_step(out: &mut Vec<PlanStep>, time: Fraction, snap: SnapId) -> Result<(), NoMemory>
     ensures { OnOk result (out.new.items ≡ out.old.items
         ++ record { time = time; snap = snap; duration = zeroℚ } ∷ []) }
 {
@@ -135,7 +123,11 @@ fn push_timed(out: &mut Vec<PlanStep>, parts: &TaskParts) -> Result<(), NoMemory
 }
 
 // The steps of a plan, in the order of the definition.
-fn all_steps(alloc: Global, parts: &TaskParts, lines: &[PlanLine]) -> Result<Vec<PlanStep>, NoMemory>
+fn all_steps(
+    alloc: Global,
+    parts: &TaskParts,
+    lines: &[PlanLine],
+) -> Result<Vec<PlanStep>, NoMemory>
     requires { IsBuiltFor parts.now lines.now }
     ensures { IfOk result (λ out. out.items ≡ steps parts.now lines.now) }
 {

@@ -16,12 +16,7 @@ use std::alloc::Global;
 use task_types::Task;
 
 // A sweep before happening k.
-fn sweep_to(
-    alloc: Global,
-    task: &Task,
-    plan: &TimedPlan,
-    k: u32,
-) -> Result<Sweep, MeaningFault>
+fn sweep_to(alloc: Global, task: &Task, plan: &TimedPlan, k: u32) -> Result<Sweep, MeaningFault>
     requires built { IsBuiltFor task.now.parts plan.now }
     requires there { k < count task.now.parts plan.now }
     ensures { Reaches result task.now.parts plan.now k }

@@ -94,7 +94,7 @@ impl Standing {
         requires known { AreSteps parts.now here.now }
         ensures { Tells result (effects_reckoned parts.now here.now (shown self.old))
             (λ _. IsKept parts.now self.new
-                × (shown self.new ≡ happened parts.now here.now (shown self.old))) }
+            × (shown self.new ≡ happened parts.now here.now (shown self.old))) }
     {
         happen(
             parts,
@@ -119,8 +119,8 @@ impl Standing {
         requires lines { AreLines parts.now running.now }
         ensures { (plan : Plan) → running.now ≡ by_start (filter (runs_between from to) plan)
             → Tells result (move_reckoned parts.now plan from to (shown self.old))
-                (λ _. IsKept parts.now self.new
-                    × (shown self.new ≡ moved parts.now plan from to (shown self.old))) }
+            (λ _. IsKept parts.now self.new
+            × (shown self.new ≡ moved parts.now plan from to (shown self.old))) }
     {
         if parts.fluents.len() == 0 {
             return Ok(());

@@ -49,8 +49,8 @@ impl Sweep {
         ensures { (plan : Plan) → IsBefore task.now.parts plan self.old
             → self.old.agenda.place < count task.now.parts plan
             → Tells result (effects_at task.now.parts plan self.old.agenda.place)
-                (λ _. IsAfter task.now.parts plan self.new
-                    × (self.new.agenda ≡ self.old.agenda)) }
+            (λ _. IsAfter task.now.parts plan self.new
+            × (self.new.agenda ≡ self.old.agenda)) }
     {
         self.standing.happen(task.parts(), self.agenda.here())
     }
@@ -62,8 +62,8 @@ impl Sweep {
         ensures { (plan : Plan) → IsAfter task.now.parts plan self.old
             → suc self.old.agenda.place < count task.now.parts plan
             → Tells result (move_at task.now.parts plan self.old.agenda.place)
-                (λ _. IsBefore task.now.parts plan self.new
-                    × (self.new.agenda.place ≡ suc self.old.agenda.place)) }
+            (λ _. IsBefore task.now.parts plan self.new
+            × (self.new.agenda.place ≡ suc self.old.agenda.place)) }
     {
         let from = self.agenda.time();
         let to = self.agenda.next_time();
@@ -86,9 +86,9 @@ impl Sweep {
         ensures { (plan : Plan) → IsBefore task.now.parts plan self.old
             → suc self.old.agenda.place < count task.now.parts plan
             → Tells result (effects_at task.now.parts plan self.old.agenda.place
-                    ++ move_at task.now.parts plan self.old.agenda.place)
-                (λ _. IsBefore task.now.parts plan self.new
-                    × (self.new.agenda.place ≡ suc self.old.agenda.place)) }
+            ++ move_at task.now.parts plan self.old.agenda.place)
+            (λ _. IsBefore task.now.parts plan self.new
+            × (self.new.agenda.place ≡ suc self.old.agenda.place)) }
     {
         match self.apply(task) {
             Ok(()) => self.advance(task),
@@ -157,8 +157,8 @@ impl Sweep {
         ensures { (task : TaskParts) (plan : Plan) → IsAt task plan self.now.agenda
             → suc self.now.agenda.place < count task plan
             → result.now ≡ by_start (filter (runs_between
-                (time_of task plan self.now.agenda.place)
-                (time_of task plan (suc self.now.agenda.place))) plan) }
+            (time_of task plan self.now.agenda.place)
+            (time_of task plan (suc self.now.agenda.place))) plan) }
     {
         self.agenda.running.as_slice()
     }

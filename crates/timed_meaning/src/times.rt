@@ -61,11 +61,7 @@ fn times_of(alloc: Global, steps: &[PlanStep]) -> Result<Vec<Fraction>, NoMemory
 }
 
 /// The happenings of a plan: the distinct times of its steps and of the task's timed literals, ascending.
-pub fn happenings(
-    alloc: Global,
-    task: &Task,
-    plan: &TimedPlan,
-) -> Result<Vec<Fraction>, NoMemory>
+pub fn happenings(alloc: Global, task: &Task, plan: &TimedPlan) -> Result<Vec<Fraction>, NoMemory>
     requires { IsBuiltFor task.now.parts plan.now }
     ensures { IfOk result (λ times. times.items ≡ happenings task.now.parts plan.now) }
 {

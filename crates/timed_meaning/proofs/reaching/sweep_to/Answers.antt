@@ -19,8 +19,7 @@ returns-in-Err-Wide c =
 pub loop-j-preserved : goal.loop-j-preserved
 loop-j-preserved c =
     let h : suc c.loop-j.sweep.agenda.place < count c.args.task.now.parts c.args.plan.now = omega (arith, c.loop-j.invariant.2, c.loop-j-test.true, c.requires.there) in
-    let stepped = c.in-Ok-step.ensures c.args.plan.now c.loop-j.invariant.1 h in
-    (
+    let stepped = c.in-Ok-step.ensures c.args.plan.now c.loop-j.invariant.1 h in (
       course-onward c.args.task.now.parts c.args.plan.now c.loop-j.j c.loop-j.invariant.0 (subst (λ (i : ℕ). Defined (effects_at c.args.task.now.parts c.args.plan.now i ++ move_at c.args.task.now.parts c.args.plan.now i)) c.loop-j.invariant.2 stepped.0),
       stepped.1.0,
       stepped.1.1 ∙ ap suc c.loop-j.invariant.2 ∙ sym (add-one c.loop-j.j),

@@ -13,14 +13,14 @@ returns c = λ task plan at.
     let counted : c.args.self.now.place + 1 ≤ c.args.self.now.next = omega (arith, counted-next task plan c.args.self.now at c.requires.more) in
     on_ok c.fill_running.result (λ filled. (
       made task plan _
-      (subst (λ k. Left task plan k (drop c.args.self.now.next c.args.self.now.steps.items)) (sym (add-one c.args.self.now.place)) (left-next task plan c.args.self.now.place c.args.self.now.steps.items c.args.self.now.first c.args.self.now.next at.next at.left))
-      (ap (λ n. c.args.self.now.next + n) (c.run_end.ensures.value ∙ ap run_end left))
-      inside
-      counted
-      at.known
-      at.lines
-      at.lines_known
-      at.ends
-      (filled ∙ ap (λ xs. running_lines xs c.args.self.now.next (c.args.self.now.next + c.run_end.result) c.as_slice-2.result.now) c.as_slice-3.ensures.value ∙ ap (running_lines c.args.self.now.steps.items c.args.self.now.next (c.args.self.now.next + c.run_end.result)) c.as_slice-2.ensures.value),
+          (subst (λ k. Left task plan k (drop c.args.self.now.next c.args.self.now.steps.items)) (sym (add-one c.args.self.now.place)) (left-next task plan c.args.self.now.place c.args.self.now.steps.items c.args.self.now.first c.args.self.now.next at.next at.left))
+          (ap (λ n. c.args.self.now.next + n) (c.run_end.ensures.value ∙ ap run_end left))
+          inside
+          counted
+          at.known
+          at.lines
+          at.lines_known
+          at.ends
+          (filled ∙ ap (λ xs. running_lines xs c.args.self.now.next (c.args.self.now.next + c.run_end.result) c.as_slice-2.result.now) c.as_slice-3.ensures.value ∙ ap (running_lines c.args.self.now.steps.items c.args.self.now.next (c.args.self.now.next + c.run_end.result)) c.as_slice-2.ensures.value),
       add-one c.args.self.now.place,
     )) c.fill_running.ensures

@@ -21,15 +21,17 @@ returns-in-Ok-advance c = λ plan a h.
     let to_is = c.next_time-to.ensures ∙ sym (time-next c.args.task.now.parts plan c.args.self.now.agenda a.at (more-out c.args.task.now.parts plan c.args.self.now.agenda a.at h)) in
     let lines_are = c.as_slice.ensures.value ∙ running-lines c.args.task.now.parts plan c.args.self.now.agenda a.at h c.time-from.result c.next_time-to.result from_is to_is in
     let moved_on = subst (λ (p : TaskParts). Defined (move_reckoned p plan c.time-from.result c.next_time-to.result (shown c.args.self.now.standing)) × (IsKept p c.advance.new.self × (shown c.advance.new.self ≡ moved p plan c.time-from.result c.next_time-to.result (shown c.args.self.now.standing)))) c.parts.ensures (c.in-Ok.ensures plan lines_are) in
-    let there = c.in-Ok-advance.ensures c.args.task.now.parts plan a.at in
-    (
+    let there = c.in-Ok-advance.ensures c.args.task.now.parts plan a.at in (
       subst Defined (move-is c.args.task.now.parts plan c.args.self.now.agenda.place h c.time-from.result c.next_time-to.result from_is to_is (shown c.args.self.now.standing) a.state) moved_on.0,
-      (record {
-        at = there.0;
-        kept = moved_on.1.0;
-        state = before-is c.args.task.now.parts plan c.args.self.now.agenda.place h c.time-from.result c.next_time-to.result from_is to_is (shown c.args.self.now.standing) a.state (shown c.advance.new.self) moved_on.1.1
-            ∙ ap (λ j. state_before c.args.task.now.parts plan j) (sym there.1);
-      }, there.1),
+      (
+        record {
+          at = there.0;
+          kept = moved_on.1.0;
+          state = before-is c.args.task.now.parts plan c.args.self.now.agenda.place h c.time-from.result c.next_time-to.result from_is to_is (shown c.args.self.now.standing) a.state (shown c.advance.new.self) moved_on.1.1
+              ∙ ap (λ j. state_before c.args.task.now.parts plan j) (sym there.1);
+        },
+        there.1,
+      ),
     )
 
 pub returns-in-Err : goal.returns-in-Err
