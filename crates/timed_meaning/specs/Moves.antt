@@ -1,4 +1,4 @@
--- Private: how fluents move: rates gathered into one list, then settled place by place.
+-- Believed: how fluents move: rates gathered into one list, then settled place by place.
 use Rattle.std.specs.Prelude.{ℕ, ◌<◌, List, [], ◌∷◌, length, slice_index_or, slice_set}
 use Rattle.std.specs.List.{AllByRecursion}
 use Rattle.rational.specs.Rational.{ℚ, zeroℚ, ◌+ℚ◌, ◌*ℚ◌}

@@ -1,4 +1,4 @@
--- Private: how the lists of a state are written.
+-- Believed: how the lists of a state are written.
 use Rattle.std.specs.Prelude.{ℕ, ◌<◌, Bool, true, false, List, [], ◌∷◌, map, length, slice_index_or, slice_set, refl}
 use Rattle.std.specs.List.{AllByRecursion, flat_map}
 use Rattle.std.specs.Coded.{Coded, code_by, coded×, coded_ℕ}
