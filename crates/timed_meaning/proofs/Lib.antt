@@ -1,0 +1,16 @@
+pub mod Amounts
+pub mod Writes
+pub mod Happening
+pub mod Motions
+pub mod Advancing
+pub mod Runs
+pub mod Fitting
+pub mod Running
+pub mod Stepping
+pub mod Left
+pub mod Built
+pub mod Starts
+pub mod Known
+pub mod Onward
+pub mod Courses
+pub mod Showing

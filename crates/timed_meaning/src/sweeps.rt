@@ -1,0 +1,174 @@
+//! A sweep along the happenings of a plan, with the state changed in place.
+
+ghost use Rattle.std.specs.Prelude.{◌≡◌, ◌+◌, ◌++◌, ◌<◌, suc, IsTrue, OnOk, IfOk, ◌↔◌};
+ghost use Rattle.std.specs.List.{filter};
+ghost use Rattle.task_types.specs.declared.parts.TaskParts.{TaskParts};
+ghost use Rattle.task_types.specs.Plan.{Plan};
+ghost use Rattle.task_types.specs.Course.{count, time_of, steps_at, runs_between, state_before, state_after};
+ghost use Rattle.task_types.specs.Reckoned.{by_start, effects_at, move_at};
+ghost use Rattle.timed_meaning.specs.TimedPlans.{IsBuiltFor};
+ghost use Rattle.timed_meaning.specs.Answers.{Tells, Facts, Fluents};
+ghost use Rattle.timed_meaning.specs.Standings.{shown};
+
+use crate::agendas::Agenda;
+use crate::plans::TimedPlan;
+use crate::standings::Standing;
+use crate::states::State;
+use crate::steps::PlanStep;
+use exact_lin::{FormFault, Fraction, NoMemory};
+use std::alloc::Global;
+use task_types::{PlanLine, Task};
+
+/// Goes along the happenings of a plan: before each of them it holds the state before it, `apply` leads to the state
+/// after it, and `advance` to the state before the next.
+#[derive(Drop)]
+pub struct Sweep {
+    pub agenda: Agenda,
+    pub standing: Standing,
+}
+
+impl Sweep {
+    ghost use Rattle.timed_meaning.specs.Agendas.{IsAt, IsSomewhere};
+    ghost use Rattle.timed_meaning.specs.Sweeps.{IsBefore, IsAfter};
+
+    /// A sweep before the first happening of a plan, with the initial state of its task.
+    pub fn begin(alloc: Global, task: &Task, plan: &TimedPlan) -> Result<Sweep, NoMemory>
+        requires { IsBuiltFor task.now.parts plan.now }
+        ensures { IfOk result
+            (λ s. IsBefore task.now.parts plan.now s × (s.agenda.place ≡ 0)) }
+    {
+        let agenda = Agenda::begin(alloc, task.parts(), plan.lines())?;
+        let standing = Standing::initial(alloc, task.parts())?;
+        Ok(Sweep { agenda, standing })
+    }
+
+    /// Applies the steps of the happening.
+    pub fn apply(&mut self, task: &Task) -> Result<(), FormFault>
+        requires { (plan : Plan) × IsBefore task.now.parts plan self.old
+            × (self.old.agenda.place < count task.now.parts plan) }
+        ensures { (plan : Plan) → IsBefore task.now.parts plan self.old
+            → self.old.agenda.place < count task.now.parts plan
+            → Tells result (effects_at task.now.parts plan self.old.agenda.place)
+            (λ _. IsAfter task.now.parts plan self.new
+            × (self.new.agenda ≡ self.old.agenda)) }
+    {
+        self.standing.happen(task.parts(), self.agenda.here())
+    }
+
+    /// Moves on to the next happening.
+    pub fn advance(&mut self, task: &Task) -> Result<(), FormFault>
+        requires { (plan : Plan) × IsAfter task.now.parts plan self.old
+            × (suc self.old.agenda.place < count task.now.parts plan) }
+        ensures { (plan : Plan) → IsAfter task.now.parts plan self.old
+            → suc self.old.agenda.place < count task.now.parts plan
+            → Tells result (move_at task.now.parts plan self.old.agenda.place)
+            (λ _. IsBefore task.now.parts plan self.new
+            × (self.new.agenda.place ≡ suc self.old.agenda.place)) }
+    {
+        let from = self.agenda.time();
+        let to = self.agenda.next_time();
+        match self
+            .standing
+            .advance(task.parts(), self.agenda.running.as_slice(), from, to)
+        {
+            Ok(()) => match self.agenda.advance() {
+                Ok(()) => Ok(()),
+                Err(_) => Err(FormFault::Memory),
+            },
+            Err(fault) => Err(fault),
+        }
+    }
+
+    /// Goes on to the state before the next happening.
+    pub fn step(&mut self, task: &Task) -> Result<(), FormFault>
+        requires { (plan : Plan) × IsBefore task.now.parts plan self.old
+            × (suc self.old.agenda.place < count task.now.parts plan) }
+        ensures { (plan : Plan) → IsBefore task.now.parts plan self.old
+            → suc self.old.agenda.place < count task.now.parts plan
+            → Tells result (effects_at task.now.parts plan self.old.agenda.place
+            ++ move_at task.now.parts plan self.old.agenda.place)
+            (λ _. IsBefore task.now.parts plan self.new
+            × (self.new.agenda.place ≡ suc self.old.agenda.place)) }
+    {
+        match self.apply(task) {
+            Ok(()) => self.advance(task),
+            Err(fault) => Err(fault),
+        }
+    }
+
+    /// Which facts hold in the state.
+    pub fn facts(&self) -> &[bool]
+        ensures before { (task : TaskParts) (plan : Plan) → IsBefore task plan self.now
+            → Facts task result.now (state_before task plan self.now.agenda.place) }
+        ensures after { (task : TaskParts) (plan : Plan) → IsAfter task plan self.now
+            → Facts task result.now (state_after task plan self.now.agenda.place) }
+    {
+        self.standing.facts.as_slice()
+    }
+
+    /// The values of the fluents in the state.
+    pub fn fluents(&self) -> &[Fraction]
+        ensures before { (task : TaskParts) (plan : Plan) → IsBefore task plan self.now
+            → Fluents task result.now (state_before task plan self.now.agenda.place) }
+        ensures after { (task : TaskParts) (plan : Plan) → IsAfter task plan self.now
+            → Fluents task result.now (state_after task plan self.now.agenda.place) }
+    {
+        self.standing.fluents.as_slice()
+    }
+
+    /// The number of the happening; they count from 0.
+    pub fn place(&self) -> usize
+        ensures { result ≡ self.now.agenda.place }
+    {
+        self.agenda.place
+    }
+
+    /// The steps of the happening, in the order of the definition.
+    pub fn here(&self) -> &[PlanStep]
+        requires { IsSomewhere self.now.agenda }
+        ensures { (task : TaskParts) (plan : Plan) → IsAt task plan self.now.agenda
+            → self.now.agenda.place < count task plan
+            → result.now ≡ steps_at task plan (time_of task plan self.now.agenda.place) }
+    {
+        self.agenda.here()
+    }
+
+    /// The time of the happening.
+    pub fn time(&self) -> Fraction
+        requires { (task : TaskParts) × (plan : Plan) × IsAt task plan self.now.agenda
+            × (self.now.agenda.place < count task plan) }
+        ensures { (task : TaskParts) (plan : Plan) → IsAt task plan self.now.agenda
+            → self.now.agenda.place < count task plan
+            → result ≡ time_of task plan self.now.agenda.place }
+    {
+        self.agenda.time()
+    }
+
+    /// Whether there is a next happening.
+    pub fn has_next(&self) -> bool
+        ensures { (task : TaskParts) (plan : Plan) → IsAt task plan self.now.agenda
+            → IsTrue result ↔ (suc self.now.agenda.place < count task plan) }
+    {
+        self.agenda.next < self.agenda.steps.as_slice().len()
+    }
+
+    /// The lines that run from this happening to the next, in the order of their starts.
+    pub fn running(&self) -> &[PlanLine]
+        ensures { (task : TaskParts) (plan : Plan) → IsAt task plan self.now.agenda
+            → suc self.now.agenda.place < count task plan
+            → result.now ≡ by_start (filter (runs_between
+            (time_of task plan self.now.agenda.place)
+            (time_of task plan (suc self.now.agenda.place))) plan) }
+    {
+        self.agenda.running.as_slice()
+    }
+
+    /// The state by itself.
+    pub fn into_state(self) -> State
+        ensures { (result.facts.items ≡ self.standing.facts.items)
+            × (result.fluents.items ≡ self.standing.fluents.items) }
+    {
+        let standing = self.standing;
+        standing.into_state()
+    }
+}
