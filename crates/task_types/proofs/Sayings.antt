@@ -139,7 +139,7 @@ module _ {M : Type 0} where
 
 -- ---- no gap, of the states
 
-at_below : {M : Type 0} (a : M → Bool) (ms : List M) (k : ℕ) → at ms k a ≡ true → k < length ms
+pub at_below : {M : Type 0} (a : M → Bool) (ms : List M) (k : ℕ) → at ms k a ≡ true → k < length ms
 at_below a [] k h = let c : false ≡ true = h in cc
 at_below a (m ∷ ms) zero h = omega arith
 at_below a (m ∷ ms) (suc k) h = let b : k < length ms = at_below a ms k h in omega arith

@@ -25,7 +25,7 @@ ends_at-append : (q : ℚ) (xs ys : List Reckoning) → ends_at q (xs ++ ys) ≡
 ends_at-append q [] ys = refl
 ends_at-append q (x ∷ xs) ys = ends_at-append (outcome x) xs ys
 
-ends_at-sums : (q : ℚ) (rs : List ℚ) → ends_at q (sums q rs) ≡ fold (λ q r. q +ℚ r) q rs
+pub ends_at-sums : (q : ℚ) (rs : List ℚ) → ends_at q (sums q rs) ≡ fold (λ q r. q +ℚ r) q rs
 ends_at-sums q [] = refl
 ends_at-sums q (r ∷ rs) = ends_at-sums (q +ℚ r) rs
 

@@ -23,7 +23,7 @@ use Rattle.task_types.specs.WellMade.{IsWellMade}
 use Rattle.basics.proofs.Bools.{and_left, and_right}
 use Rattle.basics.proofs.Lists.{each_left, each_right}
 use Rattle.task_types.proofs.Assigning.{snap_of_fits}
-use Rattle.task_types.proofs.Values.{reckonings_end}
+use Rattle.task_types.proofs.Values.{reckonings_end, ends_at-sums}
 use Rattle.timed_meaning.specs.Told.{told, Defined, Tells, raised, raised_reckoned}
 use Rattle.timed_meaning.specs.Moves.{rates_on, Motion, rate_at, settled_at, settled, settled_reckoned}
 use Rattle.timed_meaning.proofs.Amounts.{append-in}
@@ -35,10 +35,6 @@ pub none-snap : (xs : List Snap) (k : ℕ) → None ≡ slice_get xs k → slice
 none-snap [] k e = refl
 none-snap (x ∷ xs) zero e = cc
 none-snap (x ∷ xs) (suc k) e = none-snap xs k e
-
-fold-ends : (q : ℚ) (rs : List ℚ) → ends_at q (sums q rs) ≡ fold (λ q r. q +ℚ r) q rs
-fold-ends q [] = refl
-fold-ends q (r ∷ rs) = fold-ends (q +ℚ r) rs
 
 at-zeros : (n f : ℕ) → at (replicate n zeroℚ) f ≡ zeroℚ
 at-zeros zero f = refl
@@ -101,7 +97,7 @@ module _ (task : TaskParts) (w : IsWellMade task) where
 
     rate-is : (f : ℕ) → rate_at p f ≡ rate task plan from to f
     rate-is f = rate-fold f ∙ ap (λ l. fold (λ q r. q +ℚ r) zeroℚ l) (entries-rates (by_start (filter (runs_between from to) plan)) f)
-        ∙ sym (fold-ends zeroℚ (flat_map (λ l. rates_of task l f) (by_start (filter (runs_between from to) plan)))) ∙ reckonings_end.rates task plan from to f
+        ∙ sym (ends_at-sums zeroℚ (flat_map (λ l. rates_of task l f) (by_start (filter (runs_between from to) plan)))) ∙ reckonings_end.rates task plan from to f
 
     listed : Listed el p es
     listed = λ f q. rate-fold f ∙ ap (λ l. fold (λ q r. q +ℚ r) zeroℚ l) (entries-absent f es q)

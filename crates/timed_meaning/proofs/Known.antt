@@ -17,14 +17,9 @@ use Rattle.task_types.specs.Reckoned.{put_by_start, by_start}
 use Rattle.task_types.specs.WellMade.{IsWellMade, has_snaps, are_numbered, are_timed, snap_count}
 use Rattle.task_types.proofs.Everyone.{all_both}
 use Rattle.task_types.proofs.Reordering.{all_reordered}
+use Rattle.task_types.proofs.Sayings.{at_below}
 use Rattle.timed_meaning.specs.Told.{AreSteps, timed_step}
 use Rattle.timed_meaning.specs.Moves.{AreLines}
-
-at-below : {X : Type 0} (p : X → Bool) (xs : List X) (k : ℕ) → at xs k p ≡ true → k < length xs
-at-below p [] zero e = cc
-at-below p [] (suc k) e = cc
-at-below p (x ∷ xs) zero e = omega arith
-at-below p (x ∷ xs) (suc k) e = let r : k < length xs = at-below p xs k e in omega (arith, r)
 
 abbrev EndKnown : ℕ → Option ℕ → Type 0
 EndKnown m None = Unit {0}
@@ -35,8 +30,8 @@ module _ (task : TaskParts) where
   SnapsKnown x = (x.start < length task.snaps) × EndKnown (length task.snaps) x.end
 
   snaps-known : (n a : ℕ) (o : Option ℕ) → has_snaps task n a o ≡ true → (n < length task.snaps) × EndKnown (length task.snaps) o
-  snaps-known n a None h = (at-below _ task.snaps n h, tt)
-  snaps-known n a (Some e) h = (at-below _ task.snaps n (and_right _ _ (and_left _ _ h)), at-below _ task.snaps e (and_right _ _ h))
+  snaps-known n a None h = (at_below _ task.snaps n h, tt)
+  snaps-known n a (Some e) h = (at_below _ task.snaps n (and_right _ _ (and_left _ _ h)), at_below _ task.snaps e (and_right _ _ h))
 
   numbered-known : (n a : ℕ) (xs : List Action) → are_numbered task n a xs ≡ true → AllByRecursion SnapsKnown xs
   numbered-known n a [] h = tt
@@ -46,7 +41,7 @@ module _ (task : TaskParts) where
 
   timed-known : (n : ℕ) (ts : List (ℚ × ℕ)) → are_timed task n ts ≡ true → AreSteps task (map timed_step ts)
   timed-known n [] h = tt
-  timed-known n (t ∷ ts) h = (subst (λ m. m < length task.snaps) (sym (same_out t.1 n (and_left _ _ (and_left _ _ h)))) (at-below _ task.snaps n (and_right _ _ (and_left _ _ h))), timed-known (n + 1) ts (and_right _ _ h))
+  timed-known n (t ∷ ts) h = (subst (λ m. m < length task.snaps) (sym (same_out t.1 n (and_left _ _ (and_left _ _ h)))) (at_below _ task.snaps n (and_right _ _ (and_left _ _ h))), timed-known (n + 1) ts (and_right _ _ h))
 
   module _ (w : IsWellMade task) where
     ends-known : (l : PlanLine) (o : Option ℕ) → EndKnown (length task.snaps) o → AreSteps task (end_step l o)
