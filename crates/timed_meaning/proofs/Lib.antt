@@ -14,3 +14,4 @@ pub mod Known
 pub mod Onward
 pub mod Courses
 pub mod Showing
+pub mod Going
