@@ -9,6 +9,7 @@ mod constraints;
 mod durations;
 mod expressions;
 mod faults;
+mod files;
 mod formulas;
 mod grammar;
 mod heads;
@@ -23,14 +24,19 @@ mod typed;
 mod words;
 
 pub use faults::{Kind, PddlFault};
+pub use files::{
+    ActionBody, ActionDef, Aim, CostCurve, Declared, Domain, InitEntry, Metric, PieceDef, Problem,
+    TimeCost, TimedLiteral,
+};
 pub use grammar::{Line, Listed, Rest};
 pub use laws::{first_is_least, no_text_goes_further, some_text_goes_so_far};
 pub use readers::{
     read_condition, read_constraint, read_duration, read_expression, read_tree, read_typed,
 };
 pub use trees::{
-    Atom, Comparison, ConForm, CondTree, DurTree, ExprTree, FactForm, Group, Name, Side, Term,
-    Trajectory, TypeName,
+    Atom, Call, ChangeKind, Comparison, ConForm, CondTree, DurTree, EffTree, ExprTree, FactForm,
+    GoalTree, Group, Name, RateTree, Side, SoftTree, Term, TimedCond, TimedEff, Trajectory, Trend,
+    TypeName,
 };
 
 #[cfg(test)]

@@ -135,3 +135,84 @@ pub enum ConForm {
     Hard(Trajectory),
     Preference(u32, Option<Name>, Trajectory),
 }
+
+/// An atom or a fluent, or a list that is left out where only one of these can stand.
+#[derive(Drop)]
+pub enum Call {
+    Named(Atom),
+    LeftOut(u32),
+}
+
+/// How an effect changes a fluent.
+#[derive(Clone, Copy, Debug, PartialEq, Eq)]
+pub enum ChangeKind {
+    Increase,
+    Decrease,
+    Assign,
+}
+
+/// An effect; `( )` is `Empty`.
+#[derive(Drop)]
+pub enum EffTree {
+    Empty(u32),
+    And(u32, Items<EffTree>),
+    Add(Atom),
+    Delete(u32, Call),
+    Change(u32, ChangeKind, Call, ExprTree),
+    LeftOut(u32),
+}
+
+/// Whether a fluent grows or falls while an action runs.
+#[derive(Clone, Copy, Debug, PartialEq, Eq)]
+pub enum Trend {
+    Rises,
+    Falls,
+}
+
+/// What a rate adds or takes in a unit of time: 1 for `#t` alone, or the expression beside `#t`.
+#[derive(Drop)]
+pub enum RateTree {
+    One(u32),
+    Times(u32, ExprTree),
+    LeftOut(u32),
+}
+
+/// An effect of a durative action; `( )` is `Empty`.
+#[derive(Drop)]
+pub enum TimedEff {
+    Empty(u32),
+    And(u32, Items<TimedEff>),
+    AtStart(u32, EffTree),
+    AtEnd(u32, EffTree),
+    Rate(u32, Trend, Call, RateTree),
+    LeftOut(u32),
+}
+
+/// A condition of a durative action; `( )` is `Empty`.
+#[derive(Drop)]
+pub enum TimedCond {
+    Empty(u32),
+    And(u32, Items<TimedCond>),
+    AtStart(u32, CondTree),
+    OverAll(u32, CondTree),
+    AtEnd(u32, CondTree),
+    LeftOut(u32),
+}
+
+/// What a preference of a goal asks: formulas over facts, and comparisons, which may be negated.
+#[derive(Drop)]
+pub enum SoftTree {
+    Formula(FactForm),
+    Equal(u32, Side, Side),
+    Comparison(CondTree),
+    And(u32, Items<SoftTree>),
+}
+
+/// A goal: conditions, and preferences with or without a name. An `and` or `forall` is always the goal's.
+#[derive(Drop)]
+pub enum GoalTree {
+    Condition(CondTree),
+    And(u32, Items<GoalTree>),
+    Forall(u32, Items<Group>, Boxed<GoalTree>),
+    Preference(u32, Option<Name>, SoftTree),
+}
