@@ -121,7 +121,7 @@ content_ascends l a b i d h k =
     let found : slice_get (drop (suc i) ts) (t.mate - suc i) ≡ Some c = get-drop ts (suc i) (t.mate - suc i) ∙ ap (slice_get ts) e ∙ mate.1.1 in
     subst (λ (j : ℕ). Ascends t.end (content_at l j)) f (stacked text (length text) c.at (drop (suc i) ts) t.end 0 (t.mate - suc i) c rest.0 found close refl falls)
 
-single : (u place : ℕ) (xs : List ℕ) → xs ≡ u ∷ [] → IsFirst place xs → IsLeast place xs
+pub single : (u place : ℕ) (xs : List ℕ) → xs ≡ u ∷ [] → IsFirst place xs → IsLeast place xs
 single u place xs e f =
     let both : ◌≡◌ {A = List ℕ} (u ∷ []) (place ∷ f.0) = sym e ∙ f.1 in
     let same : u ≡ place = cc in

@@ -94,6 +94,9 @@ at-open l i d h v inner more e = by_kind (slice_index_or l.tokens i d).kind refl
 pub pushed : {A : Type 0} (f : Content → List A) (out new all : List A) (x : A) (c later : Content) → out ++ f c ≡ all → f c ≡ x ∷ f later → new ≡ out ++ x ∷ [] → new ++ f later ≡ all
 pushed f out new all x c later j e n = ap (λ l. l ++ f later) n ∙ append_assoc out (x ∷ []) (f later) ∙ ap (λ l. out ++ l) (sym e) ∙ j
 
+pub put_out : {A : Type 0} (f : Content → List A) (out new all some : List A) (c later : Content) → out ++ f c ≡ all → f c ≡ some ++ f later → new ≡ out ++ some → new ++ f later ≡ all
+put_out f out new all some c later j e n = ap (λ l. l ++ f later) n ∙ append_assoc out some (f later) ∙ ap (λ l. out ++ l) (sym e) ∙ j
+
 pub skipped : {A : Type 0} (f : Content → List A) (out all : List A) (c later : Content) → out ++ f c ≡ all → f c ≡ f later → out ++ f later ≡ all
 skipped f out all c later j e = ap (λ l. out ++ l) (sym e) ∙ j
 

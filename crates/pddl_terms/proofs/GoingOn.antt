@@ -18,16 +18,55 @@ use Rattle.pddl_terms.specs.declared.heads.ConHead.{ConHead}
 use Rattle.pddl_terms.specs.declared.heads.ConHead.TheVariants as con
 use Rattle.pddl_terms.specs.declared.heads.DurHead.{DurHead}
 use Rattle.pddl_terms.specs.declared.heads.DurHead.TheVariants as dur
+use Rattle.pddl_terms.specs.declared.grammar.ActionPlace.{ActionPlace}
+use Rattle.pddl_terms.specs.declared.grammar.ActionPlace.TheVariants as action
+use Rattle.pddl_terms.specs.declared.grammar.ActionSort.{ActionSort}
+use Rattle.pddl_terms.specs.declared.grammar.ActionSort.TheVariants.{Instant, Durative}
+use Rattle.pddl_terms.specs.declared.grammar.DomainGiven.{DomainGiven}
+use Rattle.pddl_terms.specs.declared.grammar.DomainLine.{DomainLine}
+use Rattle.pddl_terms.specs.declared.grammar.DomainLine.TheVariants as of_domain
+use Rattle.pddl_terms.specs.declared.grammar.DomainRest.{DomainRest}
+use Rattle.pddl_terms.specs.declared.grammar.DomainRest.TheVariants as domain
+use Rattle.pddl_terms.specs.declared.grammar.ProblemGiven.{ProblemGiven}
+use Rattle.pddl_terms.specs.declared.grammar.ProblemLine.{ProblemLine}
+use Rattle.pddl_terms.specs.declared.grammar.ProblemLine.TheVariants as of_problem
+use Rattle.pddl_terms.specs.declared.grammar.ProblemRest.{ProblemRest}
+use Rattle.pddl_terms.specs.declared.grammar.ProblemRest.TheVariants as problem
+use Rattle.pddl_terms.specs.declared.domain_heads.DomainHead.{DomainHead}
+use Rattle.pddl_terms.specs.declared.domain_heads.DomainHead.TheVariants as section
+use Rattle.pddl_terms.specs.declared.domain_heads.EffHead.{EffHead}
+use Rattle.pddl_terms.specs.declared.domain_heads.EffHead.TheVariants as eff
+use Rattle.pddl_terms.specs.declared.domain_heads.TimedEffHead.{TimedEffHead}
+use Rattle.pddl_terms.specs.declared.domain_heads.TimedEffHead.TheVariants as timed_eff
+use Rattle.pddl_terms.specs.declared.domain_heads.TimedCondHead.{TimedCondHead}
+use Rattle.pddl_terms.specs.declared.domain_heads.TimedCondHead.TheVariants as timed_cond
+use Rattle.pddl_terms.specs.declared.problem_heads.ProblemHead.{ProblemHead}
+use Rattle.pddl_terms.specs.declared.problem_heads.ProblemHead.TheVariants as problem_section
+use Rattle.pddl_terms.specs.declared.problem_heads.InitHead.{InitHead}
+use Rattle.pddl_terms.specs.declared.problem_heads.InitHead.TheVariants as init
+use Rattle.pddl_terms.specs.declared.problem_heads.GoalHead.{GoalHead}
+use Rattle.pddl_terms.specs.declared.problem_heads.GoalHead.TheVariants as goal
+use Rattle.pddl_terms.specs.declared.problem_heads.SoftHead.{SoftHead}
+use Rattle.pddl_terms.specs.declared.problem_heads.SoftHead.TheVariants as soft
+use Rattle.pddl_terms.specs.declared.problem_heads.MeasureHead.{MeasureHead}
+use Rattle.pddl_terms.specs.declared.problem_heads.MeasureHead.TheVariants as measure
+use Rattle.pddl_terms.specs.Effects.{eff_head, eff_rest, is_left_out_of_effect, deleted_rest, timed_eff_head, timed_eff_rest, rate_rest, first_factor, timed_cond_head, timed_cond_rest}
+use Rattle.pddl_terms.specs.Actions.{tail_takes, effect_line, timed_takes, instant_takes, body_takes, head_takes, action_takes}
+use Rattle.pddl_terms.specs.Domains.{domain_head, domain_section_rest, declared_rest, domain_begins, domain_takes, domain_section_enters, domain_leaves}
+use Rattle.pddl_terms.specs.Domains as of_domains
+use Rattle.pddl_terms.specs.Goals.{goal_head, goal_cond_rest, goal_rest, soft_head, denied_tree_rest, soft_denied_rest, soft_tree_rest, soft_rest, measure_head, measure_rest}
+use Rattle.pddl_terms.specs.Problems.{problem_head, problem_section_rest, init_head, init_rest, literal_rest, at_init, time_cost_rest, piece_rest, problem_begins, problem_takes, problem_section_enters, problem_leaves}
+use Rattle.pddl_terms.specs.Problems as of_problems
 use Rattle.pddl_terms.specs.Durations.{dur_head, dur_rest, untagged_rest}
 use Rattle.pddl_terms.specs.Content.{Content, End, Word, Inner}
-use Rattle.pddl_terms.specs.Words.{same_word, is_name, is_variable, is_number, is_term_or_end, is_left_out}
-use Rattle.pddl_terms.specs.Grammar.{wanted, after, only_if}
-use Rattle.pddl_terms.specs.Typed.{is_listed}
+use Rattle.pddl_terms.specs.Words.{same_word, is_name, is_variable, is_number, is_time, is_term_or_end, is_left_out}
+use Rattle.pddl_terms.specs.Grammar.{action_after, domain_after, problem_after, wanted, after, only_if}
+use Rattle.pddl_terms.specs.Typed.{is_listed, named}
 use Rattle.pddl_terms.specs.Expressions.{expr_head, expr_rest, first_side}
 use Rattle.pddl_terms.specs.Conditions.{cond_head, cond_rest, denied_rest, cmp_rest}
 use Rattle.pddl_terms.specs.Formulas.{tree_head, tree_rest}
 use Rattle.pddl_terms.specs.Constraints.{con_head, con_rest, trail_rest, behind_trail}
-use Rattle.pddl_terms.specs.Lines.{begins, inside, stands}
+use Rattle.pddl_terms.specs.Lines.{begins, inside, stands, call_rest}
 use Rattle.pddl_terms.specs.Shape.{may_end, takes, takes_line, enters, enters_line, enters_untagged, leaves, kind_ahead, word_ahead, or_here, wrong, wrong_item, IsFirst}
 use Rattle.pddl_terms.specs.Beginnings.{SameBefore, may_go_on}
 use Rattle.pddl_terms.proofs.Completions.{complete, complete-right, item, item-right}
@@ -45,6 +84,17 @@ goes-only_if : (b : Bool) (r : Rest) → may_go_on r ≡ true → goes (only_if 
 unfolding goes
 goes-only_if true r h = h
 goes-only_if false r h = refl
+
+goes-if : (b : Bool) (o p : Option Rest) → goes o ≡ true → goes p ≡ true → goes (if b then o else p) ≡ true
+goes-if true o p f g = f
+goes-if false o p f g = g
+
+goes-skipped : goes (Some rest.Skipped) ≡ true
+unfolding goes
+goes-skipped = refl
+
+goes-named : (kind : TokenKind) → goes (named kind) ≡ true
+goes-named kind = goes-only_if (is_name kind) (rest.Many line.Term) refl
 
 module _ (kind : TokenKind) where
   goes-expr : (l : Line) (h : ExprHead) → goes (expr_rest l h kind) ≡ true
@@ -141,6 +191,141 @@ goes-untagged dur.At = refl
 goes-untagged (dur.Bound c) = refl
 goes-untagged dur.Unknown = refl
 
+-- the lines of a domain
+module _ (kind : TokenKind) where
+  goes-eff : (l e : Line) (h : EffHead) → goes (eff_rest l e h kind) ≡ true
+  unfolding goes
+  goes-eff l e eff.LeftOut = refl
+  goes-eff l e eff.And = refl
+  goes-eff l e eff.Not = refl
+  goes-eff l e (eff.Change c) = refl
+  goes-eff l e eff.Named = goes-named kind
+
+goes-timed_eff : (h : TimedEffHead) → goes (timed_eff_rest h) ≡ true
+unfolding goes
+goes-timed_eff timed_eff.LeftOut = refl
+goes-timed_eff timed_eff.And = refl
+goes-timed_eff timed_eff.At = refl
+goes-timed_eff (timed_eff.Rate t) = refl
+goes-timed_eff timed_eff.Unknown = refl
+
+goes-timed_cond : (h : TimedCondHead) → goes (timed_cond_rest h) ≡ true
+unfolding goes
+goes-timed_cond timed_cond.LeftOut = refl
+goes-timed_cond timed_cond.And = refl
+goes-timed_cond timed_cond.At = refl
+goes-timed_cond timed_cond.Over = refl
+goes-timed_cond timed_cond.Unknown = refl
+
+goes-section : (h : DomainHead) → goes (domain_section_rest h) ≡ true
+unfolding goes
+goes-section section.LeftOut = refl
+goes-section section.Requirements = refl
+goes-section section.Types = refl
+goes-section section.Constants = refl
+goes-section section.Predicates = refl
+goes-section section.Functions = refl
+goes-section section.Constraints = refl
+goes-section (section.Action sort) = refl
+goes-section section.Unknown = refl
+
+goes-domain : (l : DomainLine) (word : List ℕ) (kind : TokenKind) → goes (domain_begins l word kind) ≡ true
+unfolding goes domain_begins
+goes-domain of_domain.File word kind = goes-only_if (same_word word (codes "define")) (rest.Domain domain.Heading) refl
+goes-domain of_domain.Heading word kind = goes-only_if (same_word word (codes "domain")) (rest.One line.Name) refl
+goes-domain of_domain.Section word kind = goes-section (domain_head word)
+goes-domain of_domain.Declared word kind = goes-if (is_left_out word) _ _ goes-skipped (goes-only_if (is_name kind) _ refl)
+goes-domain of_domain.TimedCond word kind = goes-timed_cond (timed_cond_head word)
+goes-domain of_domain.Effect word kind = goes-eff kind _ _ (eff_head word)
+goes-domain of_domain.SnapEffect word kind = goes-eff kind _ _ (eff_head word)
+goes-domain of_domain.TimedEffect word kind = goes-timed_eff (timed_eff_head word)
+goes-domain of_domain.Deleted word kind = goes-if (is_left_out_of_effect word) _ _ goes-skipped (goes-named kind)
+goes-domain of_domain.Rate word kind = goes-if (is_left_out word) _ _ goes-skipped (goes-only_if (same_word word (codes "*")) (rest.Domain domain.Factors) refl)
+goes-domain of_domain.Time word kind = refl
+
+-- the lines of a problem
+goes-problem_section : (h : ProblemHead) → goes (problem_section_rest h) ≡ true
+unfolding goes
+goes-problem_section problem_section.LeftOut = refl
+goes-problem_section problem_section.Requirements = refl
+goes-problem_section problem_section.Objects = refl
+goes-problem_section problem_section.Init = refl
+goes-problem_section problem_section.Goal = refl
+goes-problem_section problem_section.Constraints = refl
+goes-problem_section problem_section.TimeCosts = refl
+goes-problem_section problem_section.Metric = refl
+goes-problem_section problem_section.Unknown = refl
+
+module _ (kind : TokenKind) where
+  goes-init : (h : InitHead) → goes (init_rest h kind) ≡ true
+  unfolding goes
+  goes-init init.LeftOut = refl
+  goes-init init.Not = refl
+  goes-init init.Value = refl
+  goes-init init.At = refl
+  goes-init init.Named = goes-named kind
+
+  goes-literal : (h : InitHead) → goes (literal_rest h kind) ≡ true
+  unfolding goes
+  goes-literal init.LeftOut = refl
+  goes-literal init.Not = refl
+  goes-literal init.Value = goes-named kind
+  goes-literal init.At = goes-named kind
+  goes-literal init.Named = goes-named kind
+
+  goes-goal_cond : (h : CondHead) → goes (goal_cond_rest h kind) ≡ true
+  unfolding goes
+  goes-goal_cond cond.And = refl
+  goes-goal_cond cond.Forall = refl
+  goes-goal_cond h = goes-cond kind h
+
+  goes-goal : (h : GoalHead) → goes (goal_rest h kind) ≡ true
+  unfolding goes
+  goes-goal goal.Preference = refl
+  goes-goal (goal.Condition h) = goes-goal_cond h
+
+  goes-denied_tree : (h : TreeHead) → goes (denied_tree_rest h kind) ≡ true
+  unfolding goes
+  goes-denied_tree tree.Not = refl
+  goes-denied_tree h = goes-tree kind h
+
+  goes-soft_denied : (h : SoftHead) → goes (soft_denied_rest h kind) ≡ true
+  unfolding goes
+  goes-soft_denied (soft.Compare c) = refl
+  goes-soft_denied (soft.Formula h) = goes-denied_tree h
+
+  goes-soft_tree : (h : TreeHead) → goes (soft_tree_rest h kind) ≡ true
+  unfolding goes
+  goes-soft_tree tree.And = refl
+  goes-soft_tree h = goes-denied_tree h
+
+  goes-soft : (h : SoftHead) → goes (soft_rest h kind) ≡ true
+  unfolding goes
+  goes-soft (soft.Compare c) = refl
+  goes-soft (soft.Formula h) = goes-soft_tree h
+
+  goes-measure : (h : MeasureHead) → goes (measure_rest h kind) ≡ true
+  unfolding goes
+  goes-measure measure.TotalTime = refl
+  goes-measure measure.Violated = refl
+  goes-measure measure.TimeCost = refl
+  goes-measure (measure.Expression h) = goes-expr kind (line.Problem of_problem.Measure) h
+
+goes-problem : (l : ProblemLine) (word : List ℕ) (kind : TokenKind) → goes (problem_begins l word kind) ≡ true
+unfolding goes problem_begins
+goes-problem of_problem.File word kind = goes-only_if (same_word word (codes "define")) (rest.Problem problem.Heading) refl
+goes-problem of_problem.Heading word kind = goes-only_if (same_word word (codes "problem")) (rest.One line.Name) refl
+goes-problem of_problem.DomainName word kind = goes-only_if (same_word word (codes ":domain")) (rest.One line.Name) refl
+goes-problem of_problem.Section word kind = goes-problem_section (problem_head word)
+goes-problem of_problem.Init word kind = goes-init kind (init_head word)
+goes-problem of_problem.Literal word kind = goes-literal kind (init_head word)
+goes-problem of_problem.Goal word kind = goes-goal kind (goal_head word)
+goes-problem of_problem.Soft word kind = goes-soft kind (soft_head word)
+goes-problem of_problem.SoftDenied word kind = goes-soft_denied kind (soft_head word)
+goes-problem of_problem.TimeCost word kind = goes-if (is_left_out word) _ _ goes-skipped (goes-only_if (is_name kind) (rest.Problem problem.CostFormula) refl)
+goes-problem of_problem.Piece word kind = goes-if (is_left_out word) _ _ goes-skipped (goes-only_if (is_number kind) (rest.Two line.Number line.Number) refl)
+goes-problem of_problem.Measure word kind = goes-measure kind (measure_head word)
+
 goes-begins : (l : Line) (word : List ℕ) (kind : TokenKind) → goes (begins l word kind) ≡ true
 unfolding goes
 goes-begins line.Expr word kind = goes-expr kind line.Expr (expr_head word)
@@ -157,8 +342,37 @@ goes-begins line.DurationName word kind = refl
 goes-begins line.Term word kind = refl
 goes-begins line.Number word kind = refl
 goes-begins line.VariableList word kind = refl
+goes-begins line.Name word kind = refl
+goes-begins line.Keyword word kind = refl
+goes-begins line.Fluent word kind = goes-if (is_left_out word) _ _ goes-skipped (goes-named kind)
+goes-begins line.Atom word kind = goes-if (is_left_out word) _ _ goes-skipped (goes-named kind)
+goes-begins (line.Domain l) word kind = goes-domain l word kind
+goes-begins (line.Problem l) word kind = goes-problem l word kind
+
+goes-action_after : (place : ActionPlace) → may_go_on (action_after place) ≡ true
+goes-action_after (action.Parameters sort) = refl
+goes-action_after action.Duration = refl
+goes-action_after (action.Condition sort) = refl
+goes-action_after place = refl
+
+goes-domain_after : (r : DomainRest) → may_go_on (domain_after r) ≡ true
+goes-domain_after domain.Heading = refl
+goes-domain_after domain.Functions = refl
+goes-domain_after domain.FunctionsMore = refl
+goes-domain_after domain.Factors = refl
+goes-domain_after r = refl
+
+goes-problem_after : (r : ProblemRest) → may_go_on (problem_after r) ≡ true
+goes-problem_after problem.Heading = refl
+goes-problem_after problem.DomainName = refl
+goes-problem_after problem.CostFormula = refl
+goes-problem_after problem.CostCurve = refl
+goes-problem_after r = refl
 
 goes-after : (r : Rest) → may_go_on (after r) ≡ true
+goes-after (rest.Action place) = goes-action_after place
+goes-after (rest.Domain r) = goes-domain_after r
+goes-after (rest.Problem r) = goes-problem_after r
 goes-after (rest.Two l m) = refl
 goes-after (rest.Many l) = refl
 goes-after (rest.OneAndSome l) = refl
@@ -171,9 +385,40 @@ unfolding goes
 goes-line None word kind r h = refl
 goes-line (Some l) word kind r h = goes-only_if (stands l word kind) r h
 
-goes-if : (b : Bool) (o p : Option Rest) → goes o ≡ true → goes p ≡ true → goes (if b then o else p) ≡ true
-goes-if true o p f g = f
-goes-if false o p f g = g
+goes-tail : (sort : ActionSort) (word : List ℕ) → goes (tail_takes sort word) ≡ true
+goes-tail sort word = goes-only_if (same_word word (codes ":effect")) (rest.One (effect_line sort)) refl
+
+goes-body : (sort : ActionSort) (word : List ℕ) → goes (body_takes sort word) ≡ true
+unfolding goes
+goes-body Instant word = goes-if (same_word word (codes ":precondition")) _ _ refl (goes-tail Instant word)
+goes-body Durative word = goes-only_if (same_word word (codes ":duration")) (rest.Action action.Duration) refl
+
+goes-action : (place : ActionPlace) (word : List ℕ) (kind : TokenKind) → goes (action_takes place word kind) ≡ true
+unfolding goes action_takes
+goes-action (action.Name sort) word kind = goes-only_if (is_name kind) (rest.Action (action.Head sort)) refl
+goes-action (action.Head sort) word kind = goes-if (same_word word (codes ":parameters")) _ _ refl (goes-body sort word)
+goes-action (action.Parameters sort) word kind = refl
+goes-action (action.Body sort) word kind = goes-body sort word
+goes-action action.Duration word kind = refl
+goes-action action.Timed word kind = goes-if (same_word word (codes ":condition")) _ _ refl (goes-tail Durative word)
+goes-action (action.Condition sort) word kind = refl
+goes-action (action.Tail sort) word kind = goes-tail sort word
+
+goes-domain_takes : (r : DomainRest) (word : List ℕ) (kind : TokenKind) → goes (domain_takes r word kind) ≡ true
+unfolding goes domain_takes
+goes-domain_takes domain.FunctionsMore word kind = goes-only_if (same_word word (codes "-")) (rest.Domain domain.FunctionType) refl
+goes-domain_takes domain.FunctionType word kind = goes-only_if (same_word word (codes "number")) (rest.Domain domain.Functions) refl
+goes-domain_takes (domain.Snap l) word kind = goes-only_if _ (rest.One l) refl
+goes-domain_takes (domain.All l) word kind = goes-only_if (same_word word (codes "all")) (rest.One l) refl
+goes-domain_takes domain.Factors word kind = goes-if (is_time kind) _ _ refl (goes-only_if _ (rest.One (line.Domain of_domain.Time)) refl)
+goes-domain_takes r word kind = refl
+
+goes-problem_takes : (r : ProblemRest) (word : List ℕ) (kind : TokenKind) → goes (problem_takes r word kind) ≡ true
+unfolding goes problem_takes
+goes-problem_takes problem.AtInit word kind = goes-if (is_number kind) _ _ refl (goes-only_if _ (rest.Many line.Term) refl)
+goes-problem_takes problem.CostCurve word kind = goes-only_if (is_number kind) (rest.Two line.Number line.Number) refl
+goes-problem_takes problem.Metric word kind = goes-only_if _ (rest.One (line.Problem of_problem.Measure)) refl
+goes-problem_takes r word kind = refl
 
 goes-takes : (r : Rest) (word : List ℕ) (kind ahead : TokenKind) → goes (takes r word kind ahead) ≡ true
 unfolding takes goes
@@ -189,6 +434,9 @@ goes-takes (rest.Side plain) word kind ahead = goes-if (is_variable kind) _ _ (g
 goes-takes (rest.OptionalName l) word kind ahead = goes-only_if (is_name kind) (rest.One l) refl
 goes-takes (rest.EndAnd l) word kind ahead = goes-only_if (same_word word (codes "end")) (rest.One l) refl
 goes-takes rest.Tag word kind ahead = goes-only_if _ rest.OneUntagged refl
+goes-takes (rest.Action place) word kind ahead = goes-action place word kind
+goes-takes (rest.Domain r) word kind ahead = goes-domain_takes r word kind
+goes-takes (rest.Problem r) word kind ahead = goes-problem_takes r word kind
 goes-takes r word kind ahead = goes-line (wanted r) word kind (after r) (goes-after r)
 
 goes-inside : (l : Line) → goes (inside l) ≡ true
@@ -197,6 +445,10 @@ goes-inside line.Term = refl
 goes-inside line.Number = refl
 goes-inside line.DurationName = refl
 goes-inside line.VariableList = refl
+goes-inside line.Name = refl
+goes-inside line.Keyword = refl
+goes-inside (line.Domain of_domain.Time) = refl
+goes-inside (line.Domain l) = refl
 goes-inside l = refl
 
 goes-enters_line : (o : Option Line) → goes (enters_line o) ≡ true
@@ -206,6 +458,8 @@ goes-enters_line (Some l) = goes-inside l
 
 goes-enters : (r : Rest) (first : List ℕ) → goes (enters r first) ≡ true
 unfolding enters goes
+goes-enters (rest.Domain (domain.Sections given)) first = goes-if (of_domains.is_given given (domain_head first)) None (Some (rest.Whole (line.Domain of_domain.Section))) refl refl
+goes-enters (rest.Problem (problem.Sections given)) first = goes-if (of_problems.is_given given (problem_head first)) None (Some (rest.Whole (line.Problem of_problem.Section))) refl refl
 goes-enters rest.Skipped first = refl
 goes-enters (rest.TypeName of) first = goes-only_if (is_left_out first) rest.Skipped refl
 goes-enters rest.Sides first = refl
@@ -214,14 +468,18 @@ goes-enters rest.OneUntagged first = goes-if (same_word first (codes "at")) None
 goes-enters rest.ManyUntagged first = goes-if (same_word first (codes "at")) None (Some (rest.Whole line.UntaggedDur)) refl refl
 goes-enters r first = goes-enters_line (wanted r)
 
-goes-leaves : (r : Rest) → may_go_on (leaves r) ≡ true
+goes-leaves : (r : Rest) (first : List ℕ) → may_go_on (leaves r first) ≡ true
 unfolding leaves
-goes-leaves rest.Skipped = refl
-goes-leaves (rest.TypeName of) = refl
-goes-leaves rest.Sides = refl
-goes-leaves (rest.Side plain) = refl
-goes-leaves rest.ManyUntagged = refl
-goes-leaves r = goes-after r
+goes-leaves rest.Skipped first = refl
+goes-leaves (rest.TypeName of) first = refl
+goes-leaves rest.Sides first = refl
+goes-leaves (rest.Side plain) first = refl
+goes-leaves rest.ManyUntagged first = refl
+goes-leaves (rest.Domain (domain.Sections given)) first = refl
+goes-leaves (rest.Domain r) first = goes-domain_after r
+goes-leaves (rest.Problem (problem.Sections given)) first = refl
+goes-leaves (rest.Problem r) first = goes-problem_after r
+goes-leaves r first = goes-after r
 
 -- A word before what ends the rest well: the token ahead changes nothing.
 side-ahead : (kind ahead : TokenKind) (s : Rest) → first_side kind ahead ≡ Some s → first_side kind (kind_ahead (complete s)) ≡ Some s
@@ -255,6 +513,23 @@ untagged-ahead first s e = by_test (same_word first (codes "at")) e
     by_test true f = absurd cc
     by_test false f = let same : rest.Whole line.UntaggedDur ≡ s = cc in subst (λ (t : Rest). enters_untagged (word_ahead (complete t)) ≡ Some t) same refl
 
+-- a left-out section stands wherever a section stands
+domain-ahead : (given : DomainGiven) (first : List ℕ) (s : Rest) → domain_section_enters given first ≡ Some s → domain_section_enters given (word_ahead (complete s)) ≡ Some s
+unfolding domain_head is_left_out
+domain-ahead given first s e = by_test (of_domains.is_given given (domain_head first)) e
+  where
+    by_test : (b : Bool) → (if b then None else Some (rest.Whole (line.Domain of_domain.Section))) ≡ Some s → domain_section_enters given (word_ahead (complete s)) ≡ Some s
+    by_test true f = absurd cc
+    by_test false f = let same : rest.Whole (line.Domain of_domain.Section) ≡ s = cc in subst (λ (t : Rest). domain_section_enters given (word_ahead (complete t)) ≡ Some t) same refl
+
+problem-ahead : (given : ProblemGiven) (first : List ℕ) (s : Rest) → problem_section_enters given first ≡ Some s → problem_section_enters given (word_ahead (complete s)) ≡ Some s
+unfolding problem_head is_left_out
+problem-ahead given first s e = by_test (of_problems.is_given given (problem_head first)) e
+  where
+    by_test : (b : Bool) → (if b then None else Some (rest.Whole (line.Problem of_problem.Section))) ≡ Some s → problem_section_enters given (word_ahead (complete s)) ≡ Some s
+    by_test true f = absurd cc
+    by_test false f = let same : rest.Whole (line.Problem of_problem.Section) ≡ s = cc in subst (λ (t : Rest). problem_section_enters given (word_ahead (complete t)) ≡ Some t) same refl
+
 enters-ahead : (r : Rest) (first : List ℕ) (s : Rest) → enters r first ≡ Some s → enters r (word_ahead (complete s)) ≡ Some s
 unfolding enters is_left_out
 enters-ahead (rest.TypeName of) first s e = by_test (is_left_out first) e
@@ -265,6 +540,8 @@ enters-ahead (rest.TypeName of) first s e = by_test (is_left_out first) e
 enters-ahead rest.Skipped first s e = e
 enters-ahead rest.Sides first s e = e
 enters-ahead (rest.Side plain) first s e = e
+enters-ahead (rest.Domain (domain.Sections given)) first s e = domain-ahead given first s e
+enters-ahead (rest.Problem (problem.Sections given)) first s e = problem-ahead given first s e
 enters-ahead rest.OneUntagged first s e = untagged-ahead first s e
 enters-ahead rest.ManyUntagged first s e = untagged-ahead first s e
 enters-ahead r first s e = e
@@ -310,14 +587,14 @@ goes_on (Word w more) r place h f = by_takes (takes r w.bytes w.kind (kind_ahead
           right = ap (λ o. or_here w.at o (λ s. wrong s on.other)) takes_other ∙ on.right;
           ahead = inl (refl, refl);
         }
-goes_on (Inner at inner more) r place h f = by_enters (enters r (word_ahead inner)) refl f (λ s g k. goes_on inner s place g k) (λ g k. goes_on more (leaves r) place g k)
+goes_on (Inner at inner more) r place h f = by_enters (enters r (word_ahead inner)) refl f (λ s g k. goes_on inner s place g k) (λ g k. goes_on more (leaves r (word_ahead inner)) place g k)
   where
-    by_enters : (o : Option Rest) → enters r (word_ahead inner) ≡ o → IsFirst place (or_here at o (λ s. wrong s inner ++ wrong (leaves r) more))
+    by_enters : (o : Option Rest) → enters r (word_ahead inner) ≡ o → IsFirst place (or_here at o (λ s. wrong s inner ++ wrong (leaves r (word_ahead inner)) more))
         → ((s : Rest) → may_go_on s ≡ true → IsFirst place (wrong s inner) → GoesOn s inner place)
-        → (may_go_on (leaves r) ≡ true → IsFirst place (wrong (leaves r) more) → GoesOn (leaves r) more place)
+        → (may_go_on (leaves r (word_ahead inner)) ≡ true → IsFirst place (wrong (leaves r (word_ahead inner)) more) → GoesOn (leaves r (word_ahead inner)) more place)
         → GoesOn r (Inner at inner more) place
     by_enters None e g held next = stops r h place (Inner at inner more) (inl (cc (g.1)))
-    by_enters (Some s) e g held next = elim (split-first (wrong s inner) (wrong (leaves r) more) place g) [
+    by_enters (Some s) e g held next = elim (split-first (wrong s inner) (wrong (leaves r (word_ahead inner)) more) place g) [
       | inl within ↦
           let open_s : may_go_on s ≡ true = goes-some _ s (goes-enters r (word_ahead inner)) e in
           let on : GoesOn s inner place = held s open_s within in
@@ -325,19 +602,21 @@ goes_on (Inner at inner more) r place h f = by_enters (enters r (word_ahead inne
             | inl alike ↦ ap (enters r) alike.1 ∙ e
             | inr ends ↦ ap (λ y. enters r (word_ahead y)) ends ∙ enters-ahead r (word_ahead inner) s e
           ] in
+          let behind : Rest = leaves r (word_ahead on.other) in
           record {
-            other = Inner at on.other (complete (leaves r));
-            same = inr (on.other, complete (leaves r), refl, inl on.same);
-            right = ap (λ o. or_here at o (λ s. wrong s on.other ++ wrong (leaves r) (complete (leaves r)))) enters_other
-                ∙ ap (λ l. l ++ wrong (leaves r) (complete (leaves r))) on.right ∙ complete-right (leaves r) (goes-leaves r);
+            other = Inner at on.other (complete behind);
+            same = inr (on.other, complete behind, refl, inl on.same);
+            right = ap (λ o. or_here at o (λ s. wrong s on.other ++ wrong behind (complete behind))) enters_other
+                ∙ ap (λ l. l ++ wrong behind (complete behind)) on.right ∙ complete-right behind (goes-leaves r (word_ahead on.other));
             ahead = inl (refl, refl);
           }
       | inr behind ↦
-          let on : GoesOn (leaves r) more place = next (goes-leaves r) behind.1 in
+          let on : GoesOn (leaves r (word_ahead inner)) more place = next (goes-leaves r (word_ahead inner)) behind.1 in
           record {
             other = Inner at inner on.other;
             same = inr (inner, on.other, refl, inr (refl, on.same));
-            right = ap (λ o. or_here at o (λ s. wrong s inner ++ wrong (leaves r) on.other)) e ∙ ap (λ l. l ++ wrong (leaves r) on.other) behind.0 ∙ on.right;
+            right = ap (λ o. or_here at o (λ s. wrong s inner ++ wrong (leaves r (word_ahead inner)) on.other)) e
+                ∙ ap (λ l. l ++ wrong (leaves r (word_ahead inner)) on.other) behind.0 ∙ on.right;
             ahead = inl (refl, refl);
           }
     ]

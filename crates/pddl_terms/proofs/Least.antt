@@ -48,10 +48,10 @@ wrong-from r low (Word w more) a =
 wrong-from r low (Inner at inner more) a =
     let within = ascends-close (suc at) inner a.1 in
     let later = ascends-close (suc (close_of inner)) more a.2 in
-    from-here low (close_of more) at (enters r (word_ahead inner)) (λ s. wrong s inner ++ wrong (leaves r) more) a.0 (omega arith)
-    (λ s. from-append low (close_of inner) (close_of more) (wrong s inner) (wrong (leaves r) more) (omega (arith, a.0)) (omega arith)
+    from-here low (close_of more) at (enters r (word_ahead inner)) (λ s. wrong s inner ++ wrong (leaves r (word_ahead inner)) more) a.0 (omega arith)
+    (λ s. from-append low (close_of inner) (close_of more) (wrong s inner) (wrong (leaves r (word_ahead inner)) more) (omega (arith, a.0)) (omega arith)
     (from-lower (suc at) low (close_of inner) (wrong s inner) (omega (arith, a.0)) (wrong-from s (suc at) inner a.1))
-    (wrong-from (leaves r) (suc (close_of inner)) more a.2))
+    (wrong-from (leaves r (word_ahead inner)) (suc (close_of inner)) more a.2))
 
 from-least : (low place high : ℕ) (ps : List ℕ) → place ≤ low → AreFrom low high ps → IsLeast place ps
 unfolding AreFrom

@@ -2,10 +2,14 @@ pub mod Mates
 pub mod Contents
 pub mod Shapes
 pub mod Building
+pub mod Sectioning
 pub mod Digits
 pub mod Completions
 pub mod GoingOn
+pub mod Endings
+pub mod FileOrder
 pub mod Stopping
 pub mod Least
 pub mod Ascending
 pub mod Reading
+pub mod FileReading

@@ -16,11 +16,11 @@ drop-nil : (n : ℕ) → ◌≡◌ {A = List Content} (drop n []) []
 drop-nil zero = refl
 drop-nil (suc n) = refl
 
-drop-one : (n : ℕ) (xs : List Content) → drop n (drop 1 xs) ≡ drop (suc n) xs
+pub drop-one : (n : ℕ) (xs : List Content) → drop n (drop 1 xs) ≡ drop (suc n) xs
 drop-one n [] = drop-nil n
 drop-one n (x ∷ xs) = refl
 
-drop-two : (n : ℕ) (xs : List Content) → drop n (drop 2 xs) ≡ drop (suc (suc n)) xs
+pub drop-two : (n : ℕ) (xs : List Content) → drop n (drop 2 xs) ≡ drop (suc (suc n)) xs
 drop-two n [] = drop-nil n
 drop-two n (x ∷ []) = drop-nil n
 drop-two n (x ∷ y ∷ xs) = refl

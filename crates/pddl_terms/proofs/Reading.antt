@@ -6,10 +6,10 @@ use Rattle.pddl_terms.specs.declared.faults.PddlFault.TheVariants.{At, Memory}
 use Rattle.pddl_terms.specs.Shape.{IsFirst}
 use Rattle.pddl_terms.specs.Readings.{Reads}
 
-not_both : (places : List ℕ) (place : ℕ) → places ≡ [] → IsFirst place places → ⊥
+pub not_both : (places : List ℕ) (place : ℕ) → places ≡ [] → IsFirst place places → ⊥
 not_both places place e f = let both : ◌≡◌ {A = List ℕ} [] (place ∷ f.0) = sym e ∙ f.1 in cc
 
-same_first : (places : List ℕ) (place other : ℕ) → IsFirst place places → IsFirst other places → place ≡ other
+pub same_first : (places : List ℕ) (place other : ℕ) → IsFirst place places → IsFirst other places → place ≡ other
 same_first places place other f g = let both : ◌≡◌ {A = List ℕ} (place ∷ f.0) (other ∷ g.0) = sym f.1 ∙ g.1 in cc
 
 module _ {A : Type 0} (places : List ℕ) (told : A) where

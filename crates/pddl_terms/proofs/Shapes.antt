@@ -44,18 +44,18 @@ module _ (all : List ℕ) (x : Content) (left : Rest) (same : all ≡ wrong left
     stops-word f = ([], word None f)
 
   module _ (at : ℕ) (y more : Content) (e : x ≡ Inner at y more) where
-    list : (o : Option Rest) → enters left (word_ahead y) ≡ o → all ≡ or_here at o (λ s. wrong s y ++ wrong (leaves left) more)
+    list : (o : Option Rest) → enters left (word_ahead y) ≡ o → all ≡ or_here at o (λ s. wrong s y ++ wrong (leaves left (word_ahead y)) more)
     unfolding wrong
-    list o f = same ∙ ap (wrong left) e ∙ ap (λ p. or_here at p (λ s. wrong s y ++ wrong (leaves left) more)) f
+    list o f = same ∙ ap (wrong left) e ∙ ap (λ p. or_here at p (λ s. wrong s y ++ wrong (leaves left (word_ahead y)) more)) f
 
     pub stops-list : enters left (word_ahead y) ≡ None → IsFirst at all
     stops-list f = ([], list None f)
 
-    pub goes-list : (inner : Rest) → enters left (word_ahead y) ≡ Some inner → wrong inner y ≡ [] → all ≡ wrong (leaves left) more
-    goes-list inner f none = list (Some inner) f ∙ ap (λ l. l ++ wrong (leaves left) more) none
+    pub goes-list : (inner : Rest) → enters left (word_ahead y) ≡ Some inner → wrong inner y ≡ [] → all ≡ wrong (leaves left (word_ahead y)) more
+    goes-list inner f none = list (Some inner) f ∙ ap (λ l. l ++ wrong (leaves left (word_ahead y)) more) none
 
     pub stops-inside : (inner : Rest) → enters left (word_ahead y) ≡ Some inner → (place : ℕ) → IsFirst place (wrong inner y) → IsFirst place all
-    stops-inside inner f place first = (first.0 ++ wrong (leaves left) more, list (Some inner) f ∙ ap (λ l. l ++ wrong (leaves left) more) first.1)
+    stops-inside inner f place first = (first.0 ++ wrong (leaves left (word_ahead y)) more, list (Some inner) f ∙ ap (λ l. l ++ wrong (leaves left (word_ahead y)) more) first.1)
 
 -- the same of what stands next, where a line is wanted
 module _ (l : Line) (x : Content) where

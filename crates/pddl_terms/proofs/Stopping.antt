@@ -78,45 +78,45 @@ stops (Inner at inner more) r low place y a f s =
     alike : word_ahead s.0 ≡ word_ahead inner → enters r (word_ahead s.0) ≡ enters r (word_ahead inner)
     alike h = ap (enters r) h
 
-    by_enters : (o : Option Rest) → enters r (word_ahead s.0) ≡ o → IsFirst place (or_here at o (λ n. wrong n inner ++ wrong (leaves r) more))
-        → ((n : Rest) → IsFirst place (wrong n inner ++ wrong (leaves r) more) → IsFirst place (wrong n s.0 ++ wrong (leaves r) s.1))
-        → IsFirst place (or_here at (enters r (word_ahead s.0)) (λ n. wrong n s.0 ++ wrong (leaves r) s.1))
-    by_enters None e g go = subst (λ (o : Option Rest). IsFirst place (or_here at o (λ n. wrong n s.0 ++ wrong (leaves r) s.1))) (sym e) g
-    by_enters (Some n) e g go = subst (λ (o : Option Rest). IsFirst place (or_here at o (λ n. wrong n s.0 ++ wrong (leaves r) s.1))) (sym e) (go n g)
+    by_enters : (o : Option Rest) → enters r (word_ahead s.0) ≡ o → IsFirst place (or_here at o (λ n. wrong n inner ++ wrong (leaves r (word_ahead inner)) more))
+        → ((n : Rest) → IsFirst place (wrong n inner ++ wrong (leaves r (word_ahead inner)) more) → IsFirst place (wrong n s.0 ++ wrong (leaves r (word_ahead s.0)) s.1))
+        → IsFirst place (or_here at (enters r (word_ahead s.0)) (λ n. wrong n s.0 ++ wrong (leaves r (word_ahead s.0)) s.1))
+    by_enters None e g go = subst (λ (o : Option Rest). IsFirst place (or_here at o (λ n. wrong n s.0 ++ wrong (leaves r (word_ahead s.0)) s.1))) (sym e) g
+    by_enters (Some n) e g go = subst (λ (o : Option Rest). IsFirst place (or_here at o (λ n. wrong n s.0 ++ wrong (leaves r (word_ahead s.0)) s.1))) (sym e) (go n g)
 
-    at_first : at ≡ place → (n : Rest) → IsFirst place (wrong n inner ++ wrong (leaves r) more) → IsFirst place (wrong n s.0 ++ wrong (leaves r) s.1)
-    at_first h n g = elim (split-first (wrong n inner) (wrong (leaves r) more) place g) [
+    at_first : at ≡ place → (n : Rest) → IsFirst place (wrong n inner ++ wrong (leaves r (word_ahead inner)) more) → IsFirst place (wrong n s.0 ++ wrong (leaves r (word_ahead s.0)) s.1)
+    at_first h n g = elim (split-first (wrong n inner) (wrong (leaves r (word_ahead inner)) more) place g) [
       | inl within ↦ let low = first-within (suc at) inner n place a.1 within in absurd (omega (arith, low.0, h))
       | inr behind ↦
-          let low = first-within (suc (close_of inner)) more (leaves r) place a.2 behind.1 in
+          let low = first-within (suc (close_of inner)) more (leaves r (word_ahead inner)) place a.2 behind.1 in
           let inner_end = ascends-close (suc at) inner a.1 in
           absurd (omega (arith, low.0, inner_end, h))
     ]
 
     in_held : SameThrough place inner s.0 → (n : Rest) → (IsFirst place (wrong n inner) → IsFirst place (wrong n s.0))
-        → IsFirst place (wrong n inner ++ wrong (leaves r) more) → IsFirst place (wrong n s.0 ++ wrong (leaves r) s.1)
-    in_held t n ih g = elim (split-first (wrong n inner) (wrong (leaves r) more) place g) [
-      | inl within ↦ first-append (wrong n s.0) (wrong (leaves r) s.1) place (ih within)
+        → IsFirst place (wrong n inner ++ wrong (leaves r (word_ahead inner)) more) → IsFirst place (wrong n s.0 ++ wrong (leaves r (word_ahead s.0)) s.1)
+    in_held t n ih g = elim (split-first (wrong n inner) (wrong (leaves r (word_ahead inner)) more) place g) [
+      | inl within ↦ first-append (wrong n s.0) (wrong (leaves r (word_ahead s.0)) s.1) place (ih within)
       | inr behind ↦
-          let low = first-within (suc (close_of inner)) more (leaves r) place a.2 behind.1 in
+          let low = first-within (suc (close_of inner)) more (leaves r (word_ahead inner)) place a.2 behind.1 in
           let high = through-within (suc at) place inner s.0 a.1 t in
           absurd (omega (arith, low.0, high))
     ]
 
-    in_next : s.0 ≡ inner → (n : Rest) → (IsFirst place (wrong (leaves r) more) → IsFirst place (wrong (leaves r) s.1))
-        → IsFirst place (wrong n inner ++ wrong (leaves r) more) → IsFirst place (wrong n s.0 ++ wrong (leaves r) s.1)
-    in_next e n ih g = subst (λ (z : Content). IsFirst place (wrong n z ++ wrong (leaves r) s.1)) (sym e) (elim (split-first (wrong n inner) (wrong (leaves r) more) place g) [
-      | inl within ↦ first-append (wrong n inner) (wrong (leaves r) s.1) place within
-      | inr behind ↦ subst (λ (xs : List ℕ). IsFirst place (xs ++ wrong (leaves r) s.1)) (sym behind.0) (ih behind.1)
+    in_next : s.0 ≡ inner → (n : Rest) → (IsFirst place (wrong (leaves r (word_ahead inner)) more) → IsFirst place (wrong (leaves r (word_ahead inner)) s.1))
+        → IsFirst place (wrong n inner ++ wrong (leaves r (word_ahead inner)) more) → IsFirst place (wrong n s.0 ++ wrong (leaves r (word_ahead s.0)) s.1)
+    in_next e n ih g = subst (λ (z : Content). IsFirst place (wrong n z ++ wrong (leaves r (word_ahead z)) s.1)) (sym e) (elim (split-first (wrong n inner) (wrong (leaves r (word_ahead inner)) more) place g) [
+      | inl within ↦ first-append (wrong n inner) (wrong (leaves r (word_ahead inner)) s.1) place within
+      | inr behind ↦ subst (λ (xs : List ℕ). IsFirst place (xs ++ wrong (leaves r (word_ahead inner)) s.1)) (sym behind.0) (ih behind.1)
     ])
 
     by_part : ((at ≡ place) × (word_ahead s.0 ≡ word_ahead inner)) ⊎ (SameThrough place inner s.0 ⊎ ((s.0 ≡ inner) × SameThrough place more s.1))
         → ((n : Rest) → SameThrough place inner s.0 → IsFirst place (wrong n inner) → IsFirst place (wrong n s.0))
         → ((n : Rest) → SameThrough place more s.1 → IsFirst place (wrong n more) → IsFirst place (wrong n s.1))
-        → IsFirst place (or_here at (enters r (word_ahead s.0)) (λ n. wrong n s.0 ++ wrong (leaves r) s.1))
+        → IsFirst place (or_here at (enters r (word_ahead s.0)) (λ n. wrong n s.0 ++ wrong (leaves r (word_ahead s.0)) s.1))
     by_part (inl h) held next = by_enters (enters r (word_ahead inner)) (alike h.1) f (at_first h.0)
     by_part (inr (inl t)) held next = by_enters (enters r (word_ahead inner)) (alike (word-same place inner s.0 t)) f (λ n g. in_held t n (held n t) g)
-    by_part (inr (inr t)) held next = by_enters (enters r (word_ahead inner)) (alike (ap word_ahead t.0)) f (λ n g. in_next t.0 n (next (leaves r) t.1) g)
+    by_part (inr (inr t)) held next = by_enters (enters r (word_ahead inner)) (alike (ap word_ahead t.0)) f (λ n g. in_next t.0 n (next (leaves r (word_ahead inner)) t.1) g)
 
 token-some : (l : Lexed) (i : ℕ) (d : Token) → AreTokens l.text l.tokens → i < length l.tokens → (slice_index_or l.tokens i d).at < (slice_index_or l.tokens i d).end
 token-some l i d a h = (spans_within l.text 0 (length l.text) l.tokens a.spans i (slice_index_or l.tokens i d) (get_from_read l.tokens i d h)).1

@@ -1,10 +1,11 @@
 -- Believed: lists that go alike up to a place.
 use Rattle.std.specs.Prelude.{◌≡◌, ◌⊎◌, ℕ, Bool, true, false}
 use Rattle.pddl_terms.specs.declared.grammar.Line.{Line}
-use Rattle.pddl_terms.specs.declared.grammar.Line.TheVariants.{Term, Number, VariableList, DurationName}
+use Rattle.pddl_terms.specs.declared.grammar.Line.TheVariants.{Term, Number, VariableList, DurationName, Name, Keyword, Domain}
 use Rattle.pddl_terms.specs.declared.grammar.Rest.{Rest}
 use Rattle.pddl_terms.specs.declared.grammar.Rest.TheVariants.{Whole}
 use Rattle.pddl_terms.specs.Content.{Content, End, Word, Inner}
+use Rattle.pddl_terms.specs.Domains.{domain_has_lists}
 use Rattle.pddl_terms.specs.Shape.{kind_ahead, word_ahead}
 
 -- The second list has the tokens that the first has before the place.
@@ -32,6 +33,9 @@ has_lists Term = false
 has_lists Number = false
 has_lists VariableList = false
 has_lists DurationName = false
+has_lists Name = false
+has_lists Keyword = false
+has_lists (Domain l) = domain_has_lists l
 has_lists l = true
 
 -- Whether some list goes on so. What may follow behind a token always does; only the whole of a line without lists,

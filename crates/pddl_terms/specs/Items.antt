@@ -1,4 +1,4 @@
--- Private: what stands at a token.
+-- Believed: what stands at a token.
 use Rattle.std.specs.Prelude.{◌≡◌, ℕ, ◌+◌, ◌^◌, ◌<◌, ◌≤◌, List, length, Ok}
 use Rattle.sexpr_text.specs.declared.token.Token.{Token}
 use Rattle.sexpr_text.specs.Forms.{Lexed}

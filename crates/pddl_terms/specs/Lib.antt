@@ -8,9 +8,17 @@ pub mod Conditions
 pub mod Formulas
 pub mod Constraints
 pub mod Durations
+pub mod Effects
+pub mod Actions
+pub mod Domains
+pub mod Goals
+pub mod Problems
 pub mod Lines
 pub mod Shape
 pub mod Order
 pub mod Items
+pub mod Calls
+pub mod Sections
 pub mod Readings
+pub mod Files
 pub mod Beginnings

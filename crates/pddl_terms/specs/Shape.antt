@@ -5,13 +5,20 @@ use Rattle.sexpr_text.specs.declared.token.TokenKind.{TokenKind}
 use Rattle.sexpr_text.specs.declared.token.TokenKind.TheVariants.{Open, Close}
 use Rattle.pddl_terms.specs.declared.grammar.Line.{Line}
 use Rattle.pddl_terms.specs.declared.grammar.Line.TheVariants.{Expr, UntaggedDur}
+use Rattle.pddl_terms.specs.declared.grammar.DomainRest.{DomainRest}
+use Rattle.pddl_terms.specs.declared.grammar.DomainRest.TheVariants as domain
+use Rattle.pddl_terms.specs.declared.grammar.ProblemRest.{ProblemRest}
+use Rattle.pddl_terms.specs.declared.grammar.ProblemRest.TheVariants as problem
 use Rattle.pddl_terms.specs.declared.grammar.Rest.{Rest}
 use Rattle.pddl_terms.specs.declared.grammar.Rest.TheVariants as rest
 use Rattle.pddl_terms.specs.Words.{same_word, is_name, is_left_out}
 use Rattle.pddl_terms.specs.Content.{Content, End, Word, Inner}
-use Rattle.pddl_terms.specs.Grammar.{wanted, after, only_if}
+use Rattle.pddl_terms.specs.Grammar.{domain_wanted, problem_wanted, wanted, after, only_if}
 use Rattle.pddl_terms.specs.Typed.{typed, typed_more}
 use Rattle.pddl_terms.specs.Expressions.{first_side, other_side}
+use Rattle.pddl_terms.specs.Actions.{action_may_end, action_takes}
+use Rattle.pddl_terms.specs.Domains.{domain_may_end, domain_takes, domain_section_enters, domain_leaves}
+use Rattle.pddl_terms.specs.Problems.{problem_may_end, problem_takes, problem_section_enters, problem_leaves}
 use Rattle.pddl_terms.specs.Lines.{stands, begins, may_be_empty, inside}
 
 -- whether a list may end here
@@ -24,6 +31,9 @@ may_end rest.Skipped = true
 may_end (rest.Typed of) = true
 may_end (rest.TypedMore of) = true
 may_end rest.ManyUntagged = true
+may_end (rest.Action place) = action_may_end place
+may_end (rest.Domain r) = domain_may_end r
+may_end (rest.Problem r) = problem_may_end r
 may_end r = false
 
 -- a word where a line is wanted
@@ -43,6 +53,9 @@ takes (rest.Side plain) word kind ahead = other_side plain kind
 takes (rest.OptionalName l) word kind ahead = only_if (is_name kind) (rest.One l)
 takes (rest.EndAnd l) word kind ahead = only_if (same_word word (codes "end")) (rest.One l)
 takes rest.Tag word kind ahead = only_if (same_word word (codes "start") || same_word word (codes "end")) rest.OneUntagged
+takes (rest.Action place) word kind ahead = action_takes place word kind
+takes (rest.Domain r) word kind ahead = domain_takes r word kind
+takes (rest.Problem r) word kind ahead = problem_takes r word kind
 takes r word kind ahead = takes_line (wanted r) word kind (after r)
 
 -- what a list may hold where a line is wanted
@@ -54,6 +67,14 @@ enters_line (Some l) = inside l
 abbrev pub enters_untagged : List ℕ → Option Rest
 enters_untagged first = if same_word first (codes "at") then None else Some (rest.Whole UntaggedDur)
 
+abbrev pub domain_enters : DomainRest → List ℕ → Option Rest
+domain_enters (domain.Sections given) first = domain_section_enters given first
+domain_enters r first = enters_line (domain_wanted r)
+
+abbrev pub problem_enters : ProblemRest → List ℕ → Option Rest
+problem_enters (problem.Sections given) first = problem_section_enters given first
+problem_enters r first = enters_line (problem_wanted r)
+
 -- What a list that stands next may hold, if one may stand there; `first` is the word that begins it.
 unfoldable pub enters : Rest → List ℕ → Option Rest
 enters rest.Skipped first = Some rest.Skipped
@@ -62,16 +83,20 @@ enters rest.Sides first = Some (rest.Whole Expr)
 enters (rest.Side plain) first = Some (rest.Whole Expr)
 enters rest.OneUntagged first = enters_untagged first
 enters rest.ManyUntagged first = enters_untagged first
+enters (rest.Domain r) first = domain_enters r first
+enters (rest.Problem r) first = problem_enters r first
 enters r first = enters_line (wanted r)
 
 -- what may follow behind a list that stands next
-unfoldable pub leaves : Rest → Rest
-leaves rest.Skipped = rest.Skipped
-leaves (rest.TypeName of) = rest.Typed of
-leaves rest.Sides = rest.Side false
-leaves (rest.Side plain) = rest.Nothing
-leaves rest.ManyUntagged = rest.ManyUntagged
-leaves r = after r
+unfoldable pub leaves : Rest → List ℕ → Rest
+leaves rest.Skipped first = rest.Skipped
+leaves (rest.TypeName of) first = rest.Typed of
+leaves rest.Sides first = rest.Side false
+leaves (rest.Side plain) first = rest.Nothing
+leaves rest.ManyUntagged first = rest.ManyUntagged
+leaves (rest.Domain r) first = domain_leaves r first
+leaves (rest.Problem r) first = problem_leaves r first
+leaves r first = after r
 
 -- the kind of the token that stands next
 abbrev pub kind_ahead : Content → TokenKind
@@ -95,7 +120,7 @@ or_here place (Some r) go = go r
 unfoldable pub wrong : Rest → Content → List ℕ
 wrong r (End close) = if may_end r then [] else close ∷ []
 wrong r (Word w more) = or_here w.at (takes r w.bytes w.kind (kind_ahead more)) (λ s. wrong s more)
-wrong r (Inner at inner more) = or_here at (enters r (word_ahead inner)) (λ s. wrong s inner ++ wrong (leaves r) more)
+wrong r (Inner at inner more) = or_here at (enters r (word_ahead inner)) (λ s. wrong s inner ++ wrong (leaves r (word_ahead inner)) more)
 
 -- the places of the wrong shape in what stands next, where a line is wanted
 unfoldable pub wrong_item : Line → Content → List ℕ

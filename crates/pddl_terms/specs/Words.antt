@@ -3,7 +3,7 @@ use Rattle.std.specs.Prelude.{ℕ, Bool, true, false, ◌||◌, List}
 use Rattle.std.specs.Str.{str_eq_ignore_ascii_case}
 use lib.Chars.{codes}
 use Rattle.sexpr_text.specs.declared.token.TokenKind.{TokenKind}
-use Rattle.sexpr_text.specs.declared.token.TokenKind.TheVariants.{Name, Variable, Number, Close}
+use Rattle.sexpr_text.specs.declared.token.TokenKind.TheVariants.{Name, Variable, Keyword, Number, Time, Close}
 
 -- the same word, but for upper and lower case
 abbrev pub same_word : List ℕ → List ℕ → Bool
@@ -20,6 +20,14 @@ is_variable kind = false
 abbrev pub is_number : TokenKind → Bool
 is_number Number = true
 is_number kind = false
+
+abbrev pub is_keyword : TokenKind → Bool
+is_keyword Keyword = true
+is_keyword kind = false
+
+abbrev pub is_time : TokenKind → Bool
+is_time Time = true
+is_time kind = false
 
 -- a name, a variable or the end of a list
 abbrev pub is_term_or_end : TokenKind → Bool

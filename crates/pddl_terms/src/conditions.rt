@@ -51,7 +51,7 @@ fn compare(
 
 /// The comparison, or the negated one, that stands at a token.
 #[cycle(comparisons)]
-fn cmp_tree(alloc: Global, forms: &Forms, at: usize) -> Result<CondTree, NoMemory>
+pub fn cmp_tree(alloc: Global, forms: &Forms, at: usize) -> Result<CondTree, NoMemory>
     ensures { IfOk result (λ tree. tree ≡ cmp_tree (content_at forms.now at)) }
 {
     match beginning_at(forms, at) {
@@ -115,7 +115,7 @@ fn denied_by(
 }
 
 /// What the `not` of a condition holds, where it stands at a token.
-fn denied_tree(alloc: Global, forms: &Forms, at: usize) -> Result<CondTree, NoMemory>
+pub fn denied_tree(alloc: Global, forms: &Forms, at: usize) -> Result<CondTree, NoMemory>
     ensures { IfOk result (λ tree. tree ≡ denied_tree (content_at forms.now at)) }
 {
     match beginning_at(forms, at) {
@@ -130,7 +130,7 @@ fn denied_tree(alloc: Global, forms: &Forms, at: usize) -> Result<CondTree, NoMe
 
 /// The condition that stands at a token.
 #[cycle(conditions)]
-pub(crate) fn cond_tree(alloc: Global, forms: &Forms, at: usize) -> Result<CondTree, NoMemory>
+pub fn cond_tree(alloc: Global, forms: &Forms, at: usize) -> Result<CondTree, NoMemory>
     ensures { IfOk result (λ tree. tree ≡ cond_tree (content_at forms.now at)) }
 {
     match beginning_at(forms, at) {

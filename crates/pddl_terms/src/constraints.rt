@@ -103,7 +103,7 @@ fn preference(alloc: Global, forms: &Forms, place: u32, at: usize) -> Result<Con
 
 /// The constraint that stands at a token.
 #[cycle(constraints)]
-pub(crate) fn con_tree(alloc: Global, forms: &Forms, at: usize) -> Result<ConForm, NoMemory>
+pub fn con_tree(alloc: Global, forms: &Forms, at: usize) -> Result<ConForm, NoMemory>
     ensures { IfOk result (λ form. form ≡ con_tree (content_at forms.now at)) }
 {
     match beginning_at(forms, at) {

@@ -15,7 +15,7 @@ use sqlite_items::{Boxed, Items};
 use std::alloc::Global;
 
 /// Whether the word `start` stands at the token.
-fn is_start(forms: &Forms, at: usize) -> bool
+pub fn is_start(forms: &Forms, at: usize) -> bool
     ensures { result ≡ is_start (content_at forms.now at) }
 {
     match item_at(forms, at) {
@@ -39,7 +39,7 @@ fn tagged(alloc: Global, start: bool, place: u32, body: DurTree) -> Result<DurTr
 
 /// The duration that stands at a token.
 #[cycle(durations)]
-pub(crate) fn dur_tree(alloc: Global, forms: &Forms, at: usize) -> Result<DurTree, NoMemory>
+pub fn dur_tree(alloc: Global, forms: &Forms, at: usize) -> Result<DurTree, NoMemory>
     ensures { IfOk result (λ tree. tree ≡ dur_tree (content_at forms.now at)) }
 {
     match beginning_at(forms, at) {

@@ -25,7 +25,7 @@ use sqlite_items::{Boxed, Items};
 use std::alloc::Global;
 
 /// A word as an expression.
-fn expr_word(alloc: Global, forms: &Forms, word: Token) -> Result<ExprTree, NoMemory>
+pub fn expr_word(alloc: Global, forms: &Forms, word: Token) -> Result<ExprTree, NoMemory>
     requires { IsWord forms.now.text word }
     ensures { IfOk result (λ tree. tree ≡ expr_word (lexeme forms.now.text word)) }
 {
@@ -40,7 +40,7 @@ fn expr_word(alloc: Global, forms: &Forms, word: Token) -> Result<ExprTree, NoMe
 
 /// The expression that stands at a token.
 #[cycle(expressions)]
-pub(crate) fn expr_tree(alloc: Global, forms: &Forms, at: usize) -> Result<ExprTree, NoMemory>
+pub fn expr_tree(alloc: Global, forms: &Forms, at: usize) -> Result<ExprTree, NoMemory>
     ensures { IfOk result (λ tree. tree ≡ expr_tree (content_at forms.now at)) }
 {
     match item_at(forms, at) {
@@ -156,7 +156,7 @@ fn side_word(alloc: Global, forms: &Forms, word: Token) -> Result<Side, NoMemory
 }
 
 /// The side of an `=` that stands at a token.
-pub(crate) fn side_tree(alloc: Global, forms: &Forms, at: usize) -> Result<Side, NoMemory>
+pub fn side_tree(alloc: Global, forms: &Forms, at: usize) -> Result<Side, NoMemory>
     ensures { IfOk result (λ side. side ≡ side_tree (content_at forms.now at)) }
 {
     match item_at(forms, at) {

@@ -1,7 +1,12 @@
 //! Why a text is refused.
 
+ghost use Rattle.std.specs.Prelude.{◌≡◌, ◌<◌, ◌^◌, length, IfOk, IfErr};
+ghost use Rattle.sexpr_text.specs.Token.{AreTokens};
+ghost use Rattle.pddl_terms.specs.Files.{of_lexer, MayRefuseTokens};
+
 use exact_lin::NoMemory;
-use sexpr_text::LexFault;
+use sexpr_text::{Forms, LexFault, read_forms};
+use std::alloc::Global;
 
 /// What is wrong at a place of a text.
 #[derive(Clone, Copy, Debug, PartialEq, Eq)]
@@ -51,5 +56,33 @@ impl From<NoMemory> for PddlFault {
 
     fn from(_error: NoMemory) -> PddlFault {
         PddlFault::Memory
+    }
+}
+
+/// A fault of the tokens, where memory doesn't run out.
+pub fn of_lexer(fault: LexFault) -> PddlFault
+    ensures { result ≡ of_lexer fault }
+{
+    match fault {
+        LexFault::Memory => PddlFault::Memory,
+        LexFault::Byte(_)
+        | LexFault::Open(_)
+        | LexFault::Close(_)
+        | LexFault::Deep(_)
+        | LexFault::LongName(_)
+        | LexFault::Number(_) => PddlFault::Lex(fault),
+    }
+}
+
+/// The tokens of a text, or its first fault.
+pub fn tokens_of(alloc: Global, text: &[u8]) -> Result<Forms, PddlFault>
+    requires { length text.now < 2 ^ 32 }
+    ensures text { IfOk result (λ forms. forms.text ≡ text.now) }
+    ensures tokens { IfOk result (λ forms. AreTokens text.now forms.tokens) }
+    ensures fault { IfErr result (MayRefuseTokens text.now) }
+{
+    match read_forms(alloc, text) {
+        Ok(forms) => Ok(forms),
+        Err(fault) => Err(of_lexer(fault)),
     }
 }

@@ -17,7 +17,7 @@ use std::alloc::Global;
 
 /// The formula that stands at a token.
 #[cycle(formulas)]
-pub(crate) fn fact_tree(alloc: Global, forms: &Forms, at: usize) -> Result<FactForm, NoMemory>
+pub fn fact_tree(alloc: Global, forms: &Forms, at: usize) -> Result<FactForm, NoMemory>
     ensures { IfOk result (λ tree. tree ≡ fact_tree (content_at forms.now at)) }
 {
     match beginning_at(forms, at) {

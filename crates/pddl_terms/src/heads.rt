@@ -12,7 +12,7 @@ use crate::words::{is_left_out, is_left_out_of_condition, same_word};
 
 /// What a word begins in an expression.
 #[derive(Clone, Copy)]
-pub(crate) enum ExprHead {
+pub enum ExprHead {
     LeftOut,
     Sum,
     Product,
@@ -23,7 +23,7 @@ pub(crate) enum ExprHead {
 
 /// What a word begins in a condition.
 #[derive(Clone, Copy)]
-pub(crate) enum CondHead {
+pub enum CondHead {
     LeftOut,
     And,
     Forall,
@@ -35,7 +35,7 @@ pub(crate) enum CondHead {
 
 /// What a word begins in a formula over facts.
 #[derive(Clone, Copy)]
-pub(crate) enum TreeHead {
+pub enum TreeHead {
     LeftOut,
     Named,
     Equal,
@@ -49,7 +49,7 @@ pub(crate) enum TreeHead {
 
 /// A kind of trajectory constraint.
 #[derive(Clone, Copy)]
-pub(crate) enum TrailHead {
+pub enum TrailHead {
     Always,
     Sometime,
     Within,
@@ -61,7 +61,7 @@ pub(crate) enum TrailHead {
 
 /// What a word begins in a constraint.
 #[derive(Clone, Copy)]
-pub(crate) enum ConHead {
+pub enum ConHead {
     LeftOut,
     And,
     Forall,
@@ -72,7 +72,7 @@ pub(crate) enum ConHead {
 
 /// What a word begins in a duration.
 #[derive(Clone, Copy)]
-pub(crate) enum DurHead {
+pub enum DurHead {
     LeftOut,
     And,
     At,
@@ -99,7 +99,7 @@ pub(crate) fn expr_head(word: &[u8]) -> ExprHead
     }
 }
 
-fn comparison_of(word: &[u8]) -> Option<Comparison>
+pub(crate) fn comparison_of(word: &[u8]) -> Option<Comparison>
     ensures { result ≡ comparison_of word.now }
 {
     if same_word(word, b"<=") {

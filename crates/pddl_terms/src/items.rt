@@ -10,7 +10,7 @@ use sexpr_text::{Forms, Token, TokenKind};
 
 /// What stands at a token: the end of a list with its place, a word, or a list.
 #[derive(Clone, Copy)]
-pub(crate) enum Item {
+pub enum Item {
     End(u32),
     Word(Token),
     List(Token),
@@ -19,14 +19,14 @@ pub(crate) enum Item {
 /// How a list begins that stands at a token: with no word, or with a word, behind which stands the token with the
 /// number.
 #[derive(Clone, Copy)]
-pub(crate) enum Beginning {
+pub enum Beginning {
     NoList,
     NoWord(u32),
     Word(u32, Token, usize),
 }
 
 /// What stands at the token.
-pub(crate) fn item_at(forms: &Forms, at: usize) -> Item
+pub fn item_at(forms: &Forms, at: usize) -> Item
     ensures { IsItem forms.now at result }
 {
     let tokens = forms.tokens();
@@ -42,7 +42,7 @@ pub(crate) fn item_at(forms: &Forms, at: usize) -> Item
 }
 
 /// The number of the token behind what stands at a token.
-pub(crate) fn next(forms: &Forms, at: usize) -> usize
+pub fn next(forms: &Forms, at: usize) -> usize
     ensures later { at ≤ result }
     ensures behind { content_at forms.now result ≡ behind (content_at forms.now at) }
 {
@@ -54,7 +54,7 @@ pub(crate) fn next(forms: &Forms, at: usize) -> usize
 }
 
 /// The bytes of a word.
-pub(crate) fn word_bytes(forms: &Forms, token: Token) -> &[u8]
+pub fn word_bytes(forms: &Forms, token: Token) -> &[u8]
     requires { IsWord forms.now.text token }
     ensures { result.now ≡ bytes_of forms.now.text token }
 {
@@ -62,7 +62,7 @@ pub(crate) fn word_bytes(forms: &Forms, token: Token) -> &[u8]
 }
 
 /// How the list begins that stands at the token.
-pub(crate) fn beginning_at(forms: &Forms, at: usize) -> Beginning
+pub fn beginning_at(forms: &Forms, at: usize) -> Beginning
     ensures { IsBeginning forms.now at result }
 {
     let list = match item_at(forms, at) {
@@ -79,7 +79,7 @@ pub(crate) fn beginning_at(forms: &Forms, at: usize) -> Beginning
 }
 
 /// The kind of the token with the number.
-pub(crate) fn kind_ahead(forms: &Forms, at: usize) -> TokenKind
+pub fn kind_ahead(forms: &Forms, at: usize) -> TokenKind
     ensures { result ≡ kind_ahead (content_at forms.now at) }
 {
     match item_at(forms, at) {
@@ -90,7 +90,7 @@ pub(crate) fn kind_ahead(forms: &Forms, at: usize) -> TokenKind
 }
 
 /// The bytes of the token with the number, where it is a word.
-pub(crate) fn word_ahead(forms: &Forms, at: usize) -> &[u8]
+pub fn word_ahead(forms: &Forms, at: usize) -> &[u8]
     ensures { result.now ≡ word_ahead (content_at forms.now at) }
 {
     match item_at(forms, at) {

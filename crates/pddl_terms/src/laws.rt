@@ -5,6 +5,7 @@ ghost use Rattle.sexpr_text.specs.Forms.{Lexed, MatesAreBehind};
 ghost use Rattle.sexpr_text.specs.Token.{AreTokens};
 ghost use Rattle.pddl_terms.specs.declared.grammar.Line.{Line};
 ghost use Rattle.pddl_terms.specs.declared.grammar.Rest.{Rest};
+ghost use Rattle.pddl_terms.specs.declared.grammar.Rest.TheVariants.{One};
 ghost use Rattle.pddl_terms.specs.Content.{Content, content_at};
 ghost use Rattle.pddl_terms.specs.Shape.{wrong, wrong_item, IsFirst};
 ghost use Rattle.pddl_terms.specs.Order.{Ascends, IsLeast};
@@ -18,6 +19,8 @@ pub fn first_is_least()
         → IsLeast place (wrong_item l (content_at forms at)) }
     ensures list { (low : ℕ) (x : Content) (r : Rest) (place : ℕ)
         → Ascends low x → IsFirst place (wrong r x) → IsLeast place (wrong r x) }
+    ensures file { (forms : Lexed) (l : Line) (place : ℕ) → AreTokens forms.text forms.tokens
+        → IsFirst place (wrong (One l) (content_at forms 0)) → IsLeast place (wrong (One l) (content_at forms 0)) }
 {}
 
 /// Up to the first place of the wrong shape the text goes on as one that has the right shape.

@@ -4,31 +4,44 @@
 //! Each call answers the tree that the grammar derives there, or the first place at which no accepted text can go on.
 #![tactic(auto)]
 
-mod conditions;
-mod constraints;
-mod durations;
-mod expressions;
+mod action_lines;
+pub mod calls;
+pub mod conditions;
+pub mod constraints;
+pub mod domain_heads;
+mod domain_lines;
+pub mod durations;
+pub mod expressions;
 mod faults;
 mod files;
-mod formulas;
+pub mod formulas;
 mod grammar;
 mod heads;
-mod items;
+pub mod items;
 mod laws;
 mod lines;
-mod numbers;
+pub mod numbers;
+pub mod problem_heads;
+mod problem_lines;
 mod readers;
-mod shape;
+pub mod sections;
+pub mod shape;
 mod trees;
-mod typed;
-mod words;
+pub mod typed;
+pub mod words;
 
-pub use faults::{Kind, PddlFault};
+pub use faults::{Kind, PddlFault, of_lexer, tokens_of};
 pub use files::{
     ActionBody, ActionDef, Aim, CostCurve, Declared, Domain, InitEntry, Metric, PieceDef, Problem,
     TimeCost, TimedLiteral,
 };
-pub use grammar::{Line, Listed, Rest};
+pub use domain_heads::{DomainHead, EffHead, TimedCondHead, TimedEffHead};
+pub use grammar::{
+    ActionPlace, ActionSort, DomainGiven, DomainLine, DomainRest, Line, Listed, ProblemGiven,
+    ProblemLine, ProblemRest, Rest,
+};
+pub use heads::{ConHead, CondHead, DurHead, ExprHead, TrailHead, TreeHead};
+pub use problem_heads::{GoalHead, InitHead, MeasureHead, ProblemHead, SoftHead};
 pub use laws::{first_is_least, no_text_goes_further, some_text_goes_so_far};
 pub use readers::{
     read_condition, read_constraint, read_duration, read_expression, read_tree, read_typed,

@@ -7,24 +7,26 @@ ghost use Rattle.pddl_terms.specs.Conditions.{cond_rest, denied_rest, cmp_rest};
 ghost use Rattle.pddl_terms.specs.Formulas.{tree_rest};
 ghost use Rattle.pddl_terms.specs.Constraints.{behind_trail, con_rest, trail_rest};
 ghost use Rattle.pddl_terms.specs.Durations.{dur_rest, untagged_rest};
-ghost use Rattle.pddl_terms.specs.Lines.{stands, begins, may_be_empty, inside};
+ghost use Rattle.pddl_terms.specs.Lines.{stands, call_rest, begins, may_be_empty, inside};
 
+use crate::domain_lines::{domain_begins, domain_has_lists, domain_may_be_empty, domain_stands};
 use crate::grammar::{Line, Listed, Rest, only_if};
 use crate::heads::{
     ConHead, CondHead, DurHead, ExprHead, TrailHead, TreeHead, con_head, cond_head, dur_head,
     expr_head, tree_head,
 };
-use crate::words::{is_name, is_number, is_variable, same_word};
+use crate::problem_lines::{problem_begins, problem_may_be_empty, problem_stands};
+use crate::words::{is_keyword, is_left_out, is_name, is_number, is_variable, same_word};
 use sexpr_text::TokenKind;
 
 /// Behind a name: terms.
-fn named(kind: TokenKind) -> Option<Rest>
+pub(crate) fn named(kind: TokenKind) -> Option<Rest>
     ensures { result ≡ named kind }
 {
     only_if(is_name(kind), Rest::Many(Line::Term))
 }
 
-fn expr_rest(line: Line, head: ExprHead, kind: TokenKind) -> Option<Rest>
+pub(crate) fn expr_rest(line: Line, head: ExprHead, kind: TokenKind) -> Option<Rest>
     ensures { result ≡ expr_rest line head kind }
 {
     match head {
@@ -36,7 +38,7 @@ fn expr_rest(line: Line, head: ExprHead, kind: TokenKind) -> Option<Rest>
     }
 }
 
-fn cond_rest(head: CondHead, kind: TokenKind) -> Option<Rest>
+pub(crate) fn cond_rest(head: CondHead, kind: TokenKind) -> Option<Rest>
     ensures { result ≡ cond_rest head kind }
 {
     match head {
@@ -75,7 +77,7 @@ fn cmp_rest(head: CondHead) -> Option<Rest>
     }
 }
 
-fn tree_rest(head: TreeHead, kind: TokenKind) -> Option<Rest>
+pub(crate) fn tree_rest(head: TreeHead, kind: TokenKind) -> Option<Rest>
     ensures { result ≡ tree_rest head kind }
 {
     match head {
@@ -163,7 +165,13 @@ pub(crate) fn stands(line: Line, word: &[u8], kind: TokenKind) -> bool
         Line::Expr => is_name(kind) || is_number(kind),
         Line::EffectExpr => is_name(kind) || is_number(kind) || is_duration(word, kind),
         Line::DurationName => is_duration(word, kind),
-        Line::VariableList
+        Line::Name => is_name(kind),
+        Line::Keyword => is_keyword(kind),
+        Line::Fluent => is_name(kind),
+        Line::Domain(line) => domain_stands(line, kind),
+        Line::Problem(line) => problem_stands(line, kind),
+        Line::Atom
+        | Line::VariableList
         | Line::Cond
         | Line::Denied
         | Line::Cmp
@@ -172,6 +180,17 @@ pub(crate) fn stands(line: Line, word: &[u8], kind: TokenKind) -> bool
         | Line::Trail
         | Line::Dur
         | Line::UntaggedDur => false,
+    }
+}
+
+/// Behind a name: terms, or anything where the list is left out.
+fn call_rest(word: &[u8], kind: TokenKind) -> Option<Rest>
+    ensures { result ≡ call_rest word.now kind }
+{
+    if is_left_out(word) {
+        Some(Rest::Skipped)
+    } else {
+        named(kind)
     }
 }
 
@@ -190,7 +209,16 @@ pub(crate) fn begins(line: Line, word: &[u8], kind: TokenKind) -> Option<Rest>
         Line::Trail => trail_rest(con_head(word)),
         Line::Dur => dur_rest(dur_head(word)),
         Line::UntaggedDur => untagged_rest(dur_head(word)),
-        Line::Term | Line::Number | Line::VariableList | Line::DurationName => None,
+        Line::Fluent => call_rest(word, kind),
+        Line::Atom => call_rest(word, kind),
+        Line::Domain(line) => domain_begins(line, word, kind),
+        Line::Problem(line) => problem_begins(line, word, kind),
+        Line::Term
+        | Line::Number
+        | Line::VariableList
+        | Line::DurationName
+        | Line::Name
+        | Line::Keyword => None,
     }
 }
 
@@ -198,7 +226,27 @@ pub(crate) fn begins(line: Line, word: &[u8], kind: TokenKind) -> Option<Rest>
 pub(crate) fn may_be_empty(line: Line) -> bool
     ensures { result ≡ may_be_empty line }
 {
-    matches!(line, Line::Cond | Line::Tree)
+    match line {
+        Line::Cond | Line::Tree => true,
+        Line::Domain(line) => domain_may_be_empty(line),
+        Line::Problem(line) => problem_may_be_empty(line),
+        Line::Term
+        | Line::Number
+        | Line::VariableList
+        | Line::Expr
+        | Line::EffectExpr
+        | Line::Denied
+        | Line::Cmp
+        | Line::Con
+        | Line::Trail
+        | Line::DurationName
+        | Line::Dur
+        | Line::UntaggedDur
+        | Line::Name
+        | Line::Keyword
+        | Line::Fluent
+        | Line::Atom => false,
+    }
 }
 
 /// What a list may hold where the line is wanted, if one may stand there.
@@ -206,9 +254,13 @@ pub(crate) fn inside(line: Line) -> Option<Rest>
     ensures { result ≡ inside line }
 {
     match line {
-        Line::Term | Line::Number | Line::DurationName => None,
+        Line::Term | Line::Number | Line::DurationName | Line::Name | Line::Keyword => None,
         Line::VariableList => Some(Rest::Typed(Listed::Variables)),
-        Line::Expr
+        Line::Domain(inner) => only_if(domain_has_lists(inner), Rest::Whole(line)),
+        Line::Problem(_)
+        | Line::Fluent
+        | Line::Atom
+        | Line::Expr
         | Line::EffectExpr
         | Line::Cond
         | Line::Denied

@@ -76,7 +76,7 @@ fn size(bytes: &[u8]) -> Fraction
 }
 
 /// The value of a number's bytes.
-pub(crate) fn number_value(bytes: &[u8]) -> Fraction
+pub fn number_value(bytes: &[u8]) -> Fraction
     requires { reading bytes.now ≡ Ok Number }
     ensures { result ≡ number_value bytes.now }
 {
@@ -85,7 +85,7 @@ pub(crate) fn number_value(bytes: &[u8]) -> Fraction
 }
 
 /// The value of the number that stands at a token, or 0 where none does.
-pub(crate) fn number_at(forms: &Forms, at: usize) -> Fraction
+pub fn number_at(forms: &Forms, at: usize) -> Fraction
     ensures { result ≡ number_at (content_at forms.now at) }
 {
     match item_at(forms, at) {

@@ -10,6 +10,8 @@ ghost use Rattle.pddl_terms.specs.Shape.{
   takes,
   enters_line,
   enters_untagged,
+  domain_enters,
+  problem_enters,
   enters,
   leaves,
   wrong,
@@ -17,9 +19,17 @@ ghost use Rattle.pddl_terms.specs.Shape.{
   IsFirst,
 };
 
-use crate::grammar::{Line, Listed, Rest, after, only_if, wanted};
+use crate::action_lines::{action_may_end, action_takes};
+use crate::domain_lines::{domain_leaves, domain_may_end, domain_section_enters, domain_takes};
+use crate::grammar::{
+    DomainRest, Line, Listed, ProblemRest, Rest, after, domain_wanted, only_if, problem_wanted,
+    wanted,
+};
 use crate::items::{Item, item_at, kind_ahead, word_ahead, word_bytes};
 use crate::lines::{begins, inside, may_be_empty, stands};
+use crate::problem_lines::{
+    problem_leaves, problem_may_end, problem_section_enters, problem_takes,
+};
 use crate::words::{is_left_out, is_name, is_number, is_term_or_end, is_variable, same_word};
 use sexpr_text::{Forms, TokenKind};
 
@@ -28,6 +38,9 @@ fn may_end(rest: Rest) -> bool
 {
     match rest {
         Rest::Whole(line) => may_be_empty(line),
+        Rest::Action(place) => action_may_end(place),
+        Rest::Domain(rest) => domain_may_end(rest),
+        Rest::Problem(rest) => problem_may_end(rest),
         Rest::Nothing
         | Rest::Many(_)
         | Rest::Maybe(_)
@@ -60,7 +73,7 @@ fn takes_line(line: Option<Line>, word: &[u8], kind: TokenKind, rest: Rest) -> O
 }
 
 /// Whether a typed list lists such words.
-pub(crate) fn is_listed(of: Listed, kind: TokenKind) -> bool
+pub fn is_listed(of: Listed, kind: TokenKind) -> bool
     ensures { result ≡ is_listed of kind }
 {
     match of {
@@ -125,6 +138,9 @@ fn takes(rest: Rest, word: &[u8], kind: TokenKind, ahead: TokenKind) -> Option<R
             same_word(word, b"start") || same_word(word, b"end"),
             Rest::OneUntagged,
         ),
+        Rest::Action(place) => action_takes(place, word, kind),
+        Rest::Domain(rest) => domain_takes(rest, word, kind),
+        Rest::Problem(rest) => problem_takes(rest, word, kind),
         Rest::Nothing
         | Rest::One(_)
         | Rest::Two(_, _)
@@ -158,6 +174,35 @@ fn enters_untagged(first: &[u8]) -> Option<Rest>
     }
 }
 
+fn domain_enters(rest: DomainRest, first: &[u8]) -> Option<Rest>
+    ensures { result ≡ domain_enters rest first.now }
+{
+    match rest {
+        DomainRest::Sections(given) => domain_section_enters(given, first),
+        DomainRest::Heading
+        | DomainRest::Functions
+        | DomainRest::FunctionsMore
+        | DomainRest::FunctionType
+        | DomainRest::Snap(_)
+        | DomainRest::All(_)
+        | DomainRest::Factors => enters_line(domain_wanted(rest)),
+    }
+}
+
+fn problem_enters(rest: ProblemRest, first: &[u8]) -> Option<Rest>
+    ensures { result ≡ problem_enters rest first.now }
+{
+    match rest {
+        ProblemRest::Sections(given) => problem_section_enters(given, first),
+        ProblemRest::Heading
+        | ProblemRest::DomainName
+        | ProblemRest::AtInit
+        | ProblemRest::CostFormula
+        | ProblemRest::CostCurve
+        | ProblemRest::Metric => enters_line(problem_wanted(rest)),
+    }
+}
+
 #[tactic(auto, unfolding(crate::specs::Shape::enters))]
 fn enters(rest: Rest, first: &[u8]) -> Option<Rest>
     ensures { result ≡ enters rest first.now }
@@ -169,33 +214,8 @@ fn enters(rest: Rest, first: &[u8]) -> Option<Rest>
         Rest::Side(_) => Some(Rest::Whole(Line::Expr)),
         Rest::OneUntagged => enters_untagged(first),
         Rest::ManyUntagged => enters_untagged(first),
-        Rest::Nothing
-        | Rest::Whole(_)
-        | Rest::Typed(_)
-        | Rest::TypedMore(_)
-        | Rest::One(_)
-        | Rest::Two(_, _)
-        | Rest::Many(_)
-        | Rest::OneAndSome(_)
-        | Rest::Some(_)
-        | Rest::OneAndMaybe(_)
-        | Rest::Maybe(_)
-        | Rest::OptionalName(_)
-        | Rest::EndAnd(_)
-        | Rest::Tag => enters_line(wanted(rest)),
-    }
-}
-
-#[tactic(auto, unfolding(crate::specs::Shape::leaves))]
-fn leaves(rest: Rest) -> Rest
-    ensures { result ≡ leaves rest }
-{
-    match rest {
-        Rest::Skipped => Rest::Skipped,
-        Rest::TypeName(of) => Rest::Typed(of),
-        Rest::Sides => Rest::Side(false),
-        Rest::Side(_) => Rest::Nothing,
-        Rest::ManyUntagged => Rest::ManyUntagged,
+        Rest::Domain(rest) => domain_enters(rest, first),
+        Rest::Problem(rest) => problem_enters(rest, first),
         Rest::Nothing
         | Rest::Whole(_)
         | Rest::Typed(_)
@@ -210,12 +230,43 @@ fn leaves(rest: Rest) -> Rest
         | Rest::OptionalName(_)
         | Rest::EndAnd(_)
         | Rest::Tag
-        | Rest::OneUntagged => after(rest),
+        | Rest::Action(_) => enters_line(wanted(rest)),
+    }
+}
+
+#[tactic(auto, unfolding(crate::specs::Shape::leaves))]
+fn leaves(rest: Rest, first: &[u8]) -> Rest
+    ensures { result ≡ leaves rest first.now }
+{
+    match rest {
+        Rest::Skipped => Rest::Skipped,
+        Rest::TypeName(of) => Rest::Typed(of),
+        Rest::Sides => Rest::Side(false),
+        Rest::Side(_) => Rest::Nothing,
+        Rest::ManyUntagged => Rest::ManyUntagged,
+        Rest::Domain(rest) => domain_leaves(rest, first),
+        Rest::Problem(rest) => problem_leaves(rest, first),
+        Rest::Nothing
+        | Rest::Whole(_)
+        | Rest::Typed(_)
+        | Rest::TypedMore(_)
+        | Rest::One(_)
+        | Rest::Two(_, _)
+        | Rest::Many(_)
+        | Rest::OneAndSome(_)
+        | Rest::Some(_)
+        | Rest::OneAndMaybe(_)
+        | Rest::Maybe(_)
+        | Rest::OptionalName(_)
+        | Rest::EndAnd(_)
+        | Rest::Tag
+        | Rest::OneUntagged
+        | Rest::Action(_) => after(rest),
     }
 }
 
 /// The first place of the wrong shape in a list, from a token of it on, where this may follow.
-pub(crate) fn first_wrong(forms: &Forms, from: usize, rest: Rest) -> Option<u32>
+pub fn first_wrong(forms: &Forms, from: usize, rest: Rest) -> Option<u32>
     ensures { MatchOption result (wrong rest (content_at forms.now from) ≡ []) (λ place. IsFirst place (wrong rest (content_at forms.now from))) }
 {
     let mut at = from;
@@ -232,21 +283,22 @@ pub(crate) fn first_wrong(forms: &Forms, from: usize, rest: Rest) -> Option<u32>
                 left = next;
             }
             Item::List(token) => {
-                let Some(inner) = enters(left, word_ahead(forms, at + 1)) else {
+                let first = word_ahead(forms, at + 1);
+                let Some(inner) = enters(left, first) else {
                     return Some(token.at);
                 };
                 if let Some(place) = first_wrong(forms, at + 1, inner) {
                     return Some(place);
                 }
                 at = token.mate as usize + 1;
-                left = leaves(left);
+                left = leaves(left, first);
             }
         }
     }
 }
 
 /// The first place of the wrong shape in what stands at a token, where a line is wanted.
-pub(crate) fn first_wrong_item(forms: &Forms, at: usize, line: Line) -> Option<u32>
+pub fn first_wrong_item(forms: &Forms, at: usize, line: Line) -> Option<u32>
     ensures { MatchOption result (wrong_item line (content_at forms.now at) ≡ []) (λ place. IsFirst place (wrong_item line (content_at forms.now at))) }
 {
     match item_at(forms, at) {

@@ -16,7 +16,7 @@ use sqlite_items::Items;
 use std::alloc::Global;
 
 /// The name that a word spells.
-pub(crate) fn name_of(alloc: Global, forms: &Forms, word: Token) -> Result<Name, NoMemory>
+pub fn name_of(alloc: Global, forms: &Forms, word: Token) -> Result<Name, NoMemory>
     requires { IsWord forms.now.text word }
     ensures { IfOk result (λ name. name ≡ name_of (lexeme forms.now.text word)) }
 {
@@ -37,7 +37,7 @@ fn term_of(alloc: Global, forms: &Forms, word: Token) -> Result<Term, NoMemory>
 }
 
 /// The terms that stand from a token on.
-fn terms(alloc: Global, forms: &Forms, from: usize) -> Result<Items<Term>, NoMemory>
+pub fn terms(alloc: Global, forms: &Forms, from: usize) -> Result<Items<Term>, NoMemory>
     ensures { IfOk result (λ found. found ≡ terms (content_at forms.now from)) }
 {
     let mut out = Items::new(alloc);
@@ -55,7 +55,7 @@ fn terms(alloc: Global, forms: &Forms, from: usize) -> Result<Items<Term>, NoMem
 }
 
 /// The atom that opens at a place with a name, behind which its terms stand from a token on.
-pub(crate) fn atom_of(
+pub fn atom_of(
     alloc: Global,
     forms: &Forms,
     place: u32,
@@ -75,7 +75,7 @@ pub(crate) fn atom_of(
 }
 
 /// The fluent without terms that a name alone is.
-pub(crate) fn bare_atom(alloc: Global, forms: &Forms, word: Token) -> Result<Atom, NoMemory>
+pub fn bare_atom(alloc: Global, forms: &Forms, word: Token) -> Result<Atom, NoMemory>
     requires { IsWord forms.now.text word }
     ensures { IfOk result (λ atom. atom ≡ bare_atom (lexeme forms.now.text word)) }
 {
@@ -110,7 +110,7 @@ fn push_group(out: &mut Items<Group>, names: Items<Name>, of: TypeName) -> Resul
 }
 
 /// The groups of the typed list that stands from a token on.
-pub(crate) fn groups(
+pub fn groups(
     alloc: Global,
     forms: &Forms,
     of: Listed,
@@ -144,7 +144,7 @@ pub(crate) fn groups(
 }
 
 /// The groups of a list of variables that stands at a token.
-pub(crate) fn variables(alloc: Global, forms: &Forms, at: usize) -> Result<Items<Group>, NoMemory>
+pub fn variables(alloc: Global, forms: &Forms, at: usize) -> Result<Items<Group>, NoMemory>
     ensures { IfOk result (λ found. found ≡ variables (content_at forms.now at)) }
 {
     match item_at(forms, at) {

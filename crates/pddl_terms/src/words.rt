@@ -7,6 +7,8 @@ ghost use Rattle.pddl_terms.specs.Words.{
   is_name,
   is_variable,
   is_number,
+  is_keyword,
+  is_time,
   is_term_or_end,
   is_left_out_list,
   is_left_out_formula,
@@ -17,7 +19,7 @@ ghost use Rattle.pddl_terms.specs.Words.{
 use sexpr_text::{Token, TokenKind};
 
 /// The bytes of the token.
-pub(crate) fn bytes_of<'a>(text: &'a [u8], token: Token) -> &'a [u8]
+pub fn bytes_of<'a>(text: &'a [u8], token: Token) -> &'a [u8]
     requires order { token.at ≤ token.end }
     requires within { token.end ≤ length text.now }
     ensures { result.now ≡ bytes_of text.now token }
@@ -26,32 +28,44 @@ pub(crate) fn bytes_of<'a>(text: &'a [u8], token: Token) -> &'a [u8]
 }
 
 /// Whether two words are the same but for upper and lower case.
-pub(crate) fn same_word(word: &[u8], other: &[u8]) -> bool
+pub fn same_word(word: &[u8], other: &[u8]) -> bool
     ensures { result ≡ same_word word.now other.now }
 {
     word.eq_ignore_ascii_case(other)
 }
 
-pub(crate) fn is_name(kind: TokenKind) -> bool
+pub fn is_name(kind: TokenKind) -> bool
     ensures { result ≡ is_name kind }
 {
     matches!(kind, TokenKind::Name)
 }
 
-pub(crate) fn is_variable(kind: TokenKind) -> bool
+pub fn is_variable(kind: TokenKind) -> bool
     ensures { result ≡ is_variable kind }
 {
     matches!(kind, TokenKind::Variable)
 }
 
-pub(crate) fn is_number(kind: TokenKind) -> bool
+pub fn is_number(kind: TokenKind) -> bool
     ensures { result ≡ is_number kind }
 {
     matches!(kind, TokenKind::Number)
 }
 
+pub fn is_keyword(kind: TokenKind) -> bool
+    ensures { result ≡ is_keyword kind }
+{
+    matches!(kind, TokenKind::Keyword)
+}
+
+pub fn is_time(kind: TokenKind) -> bool
+    ensures { result ≡ is_time kind }
+{
+    matches!(kind, TokenKind::Time)
+}
+
 /// Whether it is a name, a variable or the end of a list.
-pub(crate) fn is_term_or_end(kind: TokenKind) -> bool
+pub fn is_term_or_end(kind: TokenKind) -> bool
     ensures { result ≡ is_term_or_end kind }
 {
     matches!(
@@ -82,7 +96,7 @@ fn is_left_out_formula(word: &[u8]) -> bool
 
 /// Whether a list that begins with this word is left out wherever it stands.
 #[tactic(auto, unfolding(crate::specs::Words::is_left_out))]
-pub(crate) fn is_left_out(word: &[u8]) -> bool
+pub fn is_left_out(word: &[u8]) -> bool
     ensures { result ≡ is_left_out word.now }
 {
     is_left_out_list(word) || is_left_out_formula(word)
@@ -90,7 +104,7 @@ pub(crate) fn is_left_out(word: &[u8]) -> bool
 
 /// Whether a list that begins with this word is left out in a condition.
 #[tactic(auto, unfolding(crate::specs::Words::is_left_out_of_condition))]
-pub(crate) fn is_left_out_of_condition(word: &[u8]) -> bool
+pub fn is_left_out_of_condition(word: &[u8]) -> bool
     ensures { result ≡ is_left_out_of_condition word.now }
 {
     is_left_out(word)

@@ -1,5 +1,6 @@
-use Rattle.std.proofs.Common.{sym, ◌∙◌, arith}
+use Rattle.std.proofs.Common.{sym, ap, ◌∙◌, arith}
 use Rattle.std.proofs.Math.Facts.{Fits-of_lt}
+use Rattle.pddl_terms.specs.Shape.{leaves}
 use Rattle.pddl_terms.proofs.Shapes.{taken, entered, ends, stops-end, goes-word, stops-word, goes-list, stops-list, stops-inside}
 use Rattle.pddl_terms.proofs.shape.+first_wrong.Goals as goal
 
@@ -25,13 +26,13 @@ loop-place-preserved-in-Word t c = record {
 }
 
 pub returns-in_default-enters : goal.returns-in_default-enters
-returns-in_default-enters t c = stops-list _ _ _ c.loop-place.invariant.same _ _ _ c.in-List.ensures.here (entered _ c.word_ahead.ensures c.enters.ensures c.in_default-enters.is)
+returns-in_default-enters t c = stops-list _ _ _ c.loop-place.invariant.same _ _ _ c.in-List.ensures.here (entered _ c.word_ahead-first.ensures c.enters.ensures c.in_default-enters.is)
 
 pub returns-in-Some-first_wrong : goal.returns-in-Some-first_wrong
-returns-in-Some-first_wrong t c = stops-inside _ _ _ c.loop-place.invariant.same _ _ _ c.in-List.ensures.here _ (entered _ c.word_ahead.ensures c.enters.ensures c.in-Some-enters.is) _ c.in-Some-first_wrong.ensures
+returns-in-Some-first_wrong t c = stops-inside _ _ _ c.loop-place.invariant.same _ _ _ c.in-List.ensures.here _ (entered _ c.word_ahead-first.ensures c.enters.ensures c.in-Some-enters.is) _ c.in-Some-first_wrong.ensures
 
 pub loop-place-preserved : goal.loop-place-preserved
 loop-place-preserved t c = record {
   above = omega (arith, c.loop-place.invariant.above, c.in-List.ensures.later);
-  same = rw c.leaves-left.ensures (goes-list _ _ _ c.loop-place.invariant.same _ _ _ c.in-List.ensures.here _ (entered _ c.word_ahead.ensures c.enters.ensures c.in-Some-enters.is) c.in_default-first_wrong.ensures);
+  same = rw (c.leaves-left.ensures ∙ ap (leaves c.loop-place.left) c.word_ahead-first.ensures) (goes-list _ _ _ c.loop-place.invariant.same _ _ _ c.in-List.ensures.here _ (entered _ c.word_ahead-first.ensures c.enters.ensures c.in-Some-enters.is) c.in_default-first_wrong.ensures);
 }
