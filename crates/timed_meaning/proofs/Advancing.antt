@@ -18,7 +18,6 @@ use Rattle.task_types.specs.Plan.{Plan, action_of, no_snap}
 use Rattle.task_types.specs.Course.{entries_of, rates_of, rate, runs_between, moved}
 use Rattle.exact_lin.specs.Reckonings.{Reckoning, Sum, Product, IsDefined, sums}
 use Rattle.task_types.specs.Reckoned.{by_start, rate_reckoned, move_of, move_reckoned, fluent_numbers}
-use Rattle.task_types.specs.Laws.{ends_at}
 use Rattle.task_types.specs.WellMade.{IsWellMade}
 use Rattle.basics.proofs.Bools.{and_left, and_right}
 use Rattle.basics.proofs.Lists.{each_left, each_right}

@@ -1,6 +1,6 @@
 -- The lines of a plan that is built for a task are of its actions.
-use Rattle.std.proofs.Common.{◌≡◌, true, List, [], ◌∷◌, length}
-use Rattle.std.specs.List.{AllByRecursion, list_all}
+use Rattle.std.proofs.Common.{◌≡◌, true, [], ◌∷◌, length}
+use Rattle.std.specs.List.{list_all}
 use Rattle.basics.proofs.Bools.{and_left, and_right}
 use Rattle.basics.proofs.Naturals.{lt_out}
 use Rattle.task_types.specs.declared.parts.TaskParts.{TaskParts}

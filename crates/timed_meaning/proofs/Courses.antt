@@ -1,6 +1,6 @@
 -- A course gone along place by place.
-use Rattle.std.proofs.Common.{◌≡◌, refl, sym, ap, subst, ◌∙◌, ℕ, zero, suc, ◌+◌, ◌-◌, ◌<◌, ◌≤◌, List, [], ◌∷◌, ◌++◌, inl, inr, arith, add-one}
-use Rattle.std.specs.Prelude.{◌⊎◌, Result, Err}
+use Rattle.std.proofs.Common.{◌≡◌, refl, sym, subst, ℕ, zero, suc, ◌+◌, ◌-◌, ◌<◌, List, [], ◌∷◌, ◌++◌, inl, inr, arith}
+use Rattle.std.specs.Prelude.{Err}
 use Rattle.task_types.specs.State as meaning
 use Rattle.timed_meaning.specs.declared.faults.MeaningFault.{MeaningFault}
 use Rattle.timed_meaning.specs.declared.faults.MeaningFault.TheVariants.{Wide, Memory}

@@ -41,7 +41,7 @@ pub below-map : {A : Type 0} (n : ℕ) (es : List (ℕ × A)) → list_all (λ x
 below-map n [] h = tt
 below-map n (e ∷ es) h = (let d : nat_lt e.0 n ≡ true = and_left _ _ h in grind (arith, nat_tests), below-map n es (and_right _ _ h))
 
-covers-out : (n : ℕ) (ts : List (ℕ × ℚ)) → list_all (λ x. nat_lt x n) (map (λ t. t.0) ts) ≡ true → Covers n ts
+pub covers-out : (n : ℕ) (ts : List (ℕ × ℚ)) → list_all (λ x. nat_lt x n) (map (λ t. t.0) ts) ≡ true → Covers n ts
 covers-out n [] h = tt
 covers-out n (t ∷ ts) h = (let d : nat_lt t.0 n ≡ true = and_left _ _ h in grind (arith, nat_tests), covers-out n ts (and_right _ _ h))
 

@@ -1,7 +1,7 @@
 -- The steps of a plan that is built for a well made task are of its snap actions.
-use Rattle.std.proofs.Common.{◌≡◌, refl, sym, ap, subst, ◌∙◌, ℕ, zero, suc, ◌<◌, ◌+◌, Bool, true, false, ◌&&◌, List, [], ◌∷◌, ◌++◌, length, map, Option, Some, None, arith, cond}
-use Rattle.std.specs.Prelude.{slice_get, nat_lt, IsPermutation}
-use Rattle.std.specs.List.{AllByRecursion, list_all, flat_map, filter}
+use Rattle.std.proofs.Common.{◌≡◌, sym, subst, ◌∙◌, ℕ, ◌<◌, ◌+◌, Bool, true, false, List, [], ◌∷◌, length, map, Option, Some, None, arith, cond}
+use Rattle.std.specs.Prelude.{nat_lt, IsPermutation}
+use Rattle.std.specs.List.{AllByRecursion, filter}
 use Rattle.std.proofs.lemmas.Bool.Decides.{nat_tests}
 use Rattle.rational.specs.Rational.{ℚ}
 use Rattle.basics.proofs.Bools.{and_left, and_right}
@@ -11,11 +11,9 @@ use Rattle.task_types.specs.declared.actions.Action.{Action}
 use Rattle.task_types.specs.declared.parts.TaskParts.{TaskParts}
 use Rattle.task_types.specs.declared.plans.PlanLine.{PlanLine}
 use Rattle.task_types.specs.Tests.{◌≤?◌}
-use Rattle.task_types.specs.Trace.{at}
 use Rattle.task_types.specs.Plan.{Plan, Step, action_of, no_action, line_steps, end_step, plan_steps, timed_steps, steps}
 use Rattle.task_types.specs.Reckoned.{put_by_start, by_start}
 use Rattle.task_types.specs.WellMade.{IsWellMade, has_snaps, are_numbered, are_timed, snap_count}
-use Rattle.task_types.proofs.Everyone.{all_both}
 use Rattle.task_types.proofs.Reordering.{all_reordered}
 use Rattle.task_types.proofs.Sayings.{at_below}
 use Rattle.timed_meaning.specs.Told.{AreSteps, timed_step}

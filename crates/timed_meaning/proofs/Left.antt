@@ -1,12 +1,12 @@
 -- The distinct times of sorted steps, run by run; and what is left of a plan's steps at a happening.
 use Rattle.std.proofs.Common.{◌≡◌, refl, sym, ap, subst, ◌∙◌, ℕ, zero, suc, ◌+◌, ◌<◌, ◌≤◌, Bool, true, false, cond, if◌then◌else◌, List, [], ◌∷◌, length, map, drop, take, ◌++◌, append_assoc, arith, inl, inr, ⊎_elim}
 use Rattle.std.specs.Prelude.{slice_index_or, ◌⊎◌}
-use Rattle.std.specs.List.{AllByRecursion, filter}
+use Rattle.std.specs.List.{AllByRecursion}
 use Rattle.std.proofs.lemmas.List.{drop_more}
 use Rattle.std.specs.declared.cmp.Ordering.{Ordering}
 use Rattle.std.specs.declared.cmp.Ordering.TheVariants.{Less, Equal, Greater}
 use Rattle.rational.specs.Rational.{ℚ, zeroℚ, ◌≤ℚ◌, ◌<ℚ◌, cmp_ℚ}
-use Rattle.rational.proofs.Inequalities.{le_lt_or_eq, le_from_eq}
+use Rattle.rational.proofs.Inequalities.{le_lt_or_eq}
 use Rattle.rational.proofs.Comparisons.{lt_is_less}
 use Rattle.rational.proofs.Order.{lt_irrefl}
 use Rattle.task_types.specs.Laws.{Ascends}
@@ -20,7 +20,7 @@ use Rattle.task_types.proofs.Happenings.{Among, ascending-among, among-ascending
 use Rattle.task_types.proofs.Everyone.{all_both, all_tabulate}
 use Rattle.timed_meaning.specs.Agendas.{Left, run_end}
 use Rattle.timed_meaning.specs.Sorts.{NeverFall, at_time, run, after_run, times, AreSorted}
-use Rattle.timed_meaning.proofs.Runs.{runs}
+use Rattle.timed_meaning.proofs.Runs.{same, runs}
 
 -- ---- the first run
 
@@ -46,9 +46,6 @@ times-from t (x ∷ xs) n h = go (x.time =? t) refl (times-from t xs n.1 h.1) (t
         → in_place t (times (x ∷ xs)) ≡ t ∷ times (if b then after_run t xs else (x ∷ xs))
     go true e r s = ap (λ q. in_place t (in_place q (times xs))) (eq_out x.time t e) ∙ ap (in_place t) r ∙ placed-same t (times (after_run t xs))
     go false e r s = ap (in_place t) s ∙ placed-below t x.time (times (after_run x.time xs)) (above t x.time h.0 e) ∙ ap (λ l. t ∷ l) (sym s)
-
-same : (t : ℚ) → (t =? t) ≡ true
-same t = eq_in t t refl
 
 -- the run of the first step's time begins with it
 pub after-first : (x : Step) (xs : List Step) → after_run x.time (x ∷ xs) ≡ after_run x.time xs

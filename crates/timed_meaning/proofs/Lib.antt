@@ -7,11 +7,15 @@ pub mod Runs
 pub mod Fitting
 pub mod Running
 pub mod Stepping
+pub mod Followed
 pub mod Left
+pub mod Loops
 pub mod Built
+pub mod Listed
 pub mod Starts
 pub mod Known
 pub mod Onward
+pub mod Meeting
 pub mod Courses
 pub mod Showing
 pub mod Going

@@ -1,10 +1,10 @@
 -- Fluents settled place by place have moved, also those that no running line has a rate on.
-use Rattle.std.proofs.Common.{◌≡◌, refl, sym, ap, subst, ◌∙◌, ℕ, ◌<◌, Bool, true, false, cond, ◌||◌, ◌==◌, List, [], ◌∷◌, length, map, arith}
+use Rattle.std.proofs.Common.{◌≡◌, refl, sym, ap, subst, ◌∙◌, ℕ, ◌<◌, Bool, true, false, cond, ◌||◌, ◌==◌, List, [], ◌∷◌, length, map}
 use Rattle.std.proofs.lemmas.List.{length-set}
 use Rattle.rational.specs.Rational.{ℚ, zeroℚ, ◌+ℚ◌, ◌*ℚ◌}
 use Rattle.rational.proofs.Ring.{law, ◌⊕◌, ◌⊗◌, num, ◌≐◌}
-use Rattle.rational.proofs.Field.{ℚ_ring, zero_mul}
-use Rattle.exact_lin.specs.Reckoning.{wide_limit, Fits, CanAdd}
+use Rattle.rational.proofs.Field.{ℚ_ring}
+use Rattle.exact_lin.specs.Reckoning.{wide_limit, Fits}
 use Rattle.exact_lin.proofs.Nothing.{adds_nothing_left}
 use Rattle.exact_lin.proofs.Results.{fits-sum}
 use Rattle.task_types.specs.Sets.{is_in}

@@ -12,7 +12,13 @@ use Rattle.task_types.specs.Tests.{◌=?◌, ◌<?◌, is_less}
 use Rattle.task_types.specs.Plan.{Step}
 use Rattle.task_types.proofs.Comparisons.{lt_out, eq_le, not_lt_out, eq_out, eq_in, lt_le_absurd}
 use Rattle.task_types.proofs.Everyone.{filter_same, all_tabulate, filter_none}
+use Rattle.timed_meaning.specs.declared.steps.OwnedStep.{OwnedStep}
+use Rattle.timed_meaning.specs.Owned.{steps_of}
 use Rattle.timed_meaning.specs.Sorts.{NeverFall, at_time, run, after_run, RunsAreHappenings}
+
+-- a time is itself
+pub same : (t : ℚ) → (t =? t) ≡ true
+same t = eq_in t t refl
 
 less_same : (o : Ordering) → is_lt o ≡ is_less o
 less_same Less = refl
@@ -37,27 +43,39 @@ tie_is t q = rw (lt_bool t q, lt_bool q t) (go (t <? q) (q <? t) (q =? t) refl r
         same : q ≤ℚ t → t ≤ℚ q → q ≡ t
         same h k = ⊎_elim (λ l. absurd (lt_le_absurd q t l k)) (λ p. p) (le_lt_or_eq q t h)
 
-pub stable-at : (t : ℚ) (xs ys : List Step) → filter (ties (λ (x y : Step). is_lt (cmp_ℚ x.time y.time)) (record { time = t; snap = 0; duration = t })) ys ≡ filter (ties (λ (x y : Step). is_lt (cmp_ℚ x.time y.time)) (record { time = t; snap = 0; duration = t })) xs → at_time t ys ≡ at_time t xs
-stable-at t xs ys e = sym (same ys) ∙ e ∙ same xs
+-- steps at a time, and their owners
+at_time-owned : (t : ℚ) (xs : List OwnedStep) → at_time t (steps_of xs) ≡ steps_of (filter (λ s. s.step.time =? t) xs)
+at_time-owned t [] = refl
+at_time-owned t (x ∷ xs) = go (x.step.time =? t) (at_time-owned t xs)
   where
-    same : (zs : List Step) → filter (ties (λ (x y : Step). is_lt (cmp_ℚ x.time y.time)) (record { time = t; snap = 0; duration = t })) zs ≡ at_time t zs
-    same zs = filter_same (ties (λ (x y : Step). is_lt (cmp_ℚ x.time y.time)) (record { time = t; snap = 0; duration = t })) (λ s. s.time =? t) zs (all_tabulate (λ s. ties (λ (x y : Step). is_lt (cmp_ℚ x.time y.time)) (record { time = t; snap = 0; duration = t }) s ≡ (s.time =? t)) zs (λ s. tie_is t s.time))
+    go : (b : Bool) → at_time t (steps_of xs) ≡ steps_of (filter (λ s. s.step.time =? t) xs) → cond b (x.step ∷ at_time t (steps_of xs)) (at_time t (steps_of xs)) ≡ steps_of (cond b (x ∷ filter (λ s. s.step.time =? t) xs) (filter (λ s. s.step.time =? t) xs))
+    go true r = ap (λ l. x.step ∷ l) r
+    go false r = r
+
+abbrev pub tie : ℚ → OwnedStep
+tie t = record { step = record { time = t; snap = 0; duration = t }; owner = 0 }
+
+pub stable-at : (t : ℚ) (xs ys : List OwnedStep) → filter (ties (λ (x y : OwnedStep). is_lt (cmp_ℚ x.step.time y.step.time)) (tie t)) ys ≡ filter (ties (λ (x y : OwnedStep). is_lt (cmp_ℚ x.step.time y.step.time)) (tie t)) xs → at_time t (steps_of ys) ≡ at_time t (steps_of xs)
+stable-at t xs ys e = at_time-owned t ys ∙ ap steps_of (sym (same ys) ∙ e ∙ same xs) ∙ sym (at_time-owned t xs)
+  where
+    same : (zs : List OwnedStep) → filter (ties (λ (x y : OwnedStep). is_lt (cmp_ℚ x.step.time y.step.time)) (tie t)) zs ≡ filter (λ s. s.step.time =? t) zs
+    same zs = filter_same (ties (λ (x y : OwnedStep). is_lt (cmp_ℚ x.step.time y.step.time)) (tie t)) (λ s. s.step.time =? t) zs (all_tabulate (λ s. ties (λ (x y : OwnedStep). is_lt (cmp_ℚ x.step.time y.step.time)) (tie t) s ≡ (s.step.time =? t)) zs (λ s. tie_is t s.step.time))
 
 -- sorted by neighbours is sorted
-pub sorted-never_fall : (xs : List Step) → IsSortedBy (λ (x y : Step). is_lt (cmp_ℚ x.time y.time)) xs → NeverFall xs
+pub sorted-never_fall : (xs : List OwnedStep) → IsSortedBy (λ (x y : OwnedStep). is_lt (cmp_ℚ x.step.time y.step.time)) xs → NeverFall (steps_of xs)
 sorted-never_fall [] h = tt
 sorted-never_fall (x ∷ []) h = (tt, tt)
-sorted-never_fall (x ∷ y ∷ ys) h = go (sorted-never_fall (y ∷ ys) (λ k d l m. subst (λ i. is_lt (cmp_ℚ (slice_index_or (x ∷ y ∷ ys) i d).time (slice_index_or (y ∷ ys) k d).time) ≡ false) (let e : suc k + 1 ≡ suc (k + 1) = omega arith in e) (h (suc k) d (omega arith) (omega (arith, m)))))
+sorted-never_fall (x ∷ y ∷ ys) h = go (sorted-never_fall (y ∷ ys) (λ k d l m. subst (λ i. is_lt (cmp_ℚ (slice_index_or (x ∷ y ∷ ys) i d).step.time (slice_index_or (y ∷ ys) k d).step.time) ≡ false) (let e : suc k + 1 ≡ suc (k + 1) = omega arith in e) (h (suc k) d (omega arith) (omega (arith, m)))))
   where
-    first : x.time ≤ℚ y.time
-    first = not_lt_out y.time x.time (sym (lt_bool y.time x.time) ∙ h 0 x (omega arith) (omega arith))
+    first : x.step.time ≤ℚ y.step.time
+    first = not_lt_out y.step.time x.step.time (sym (lt_bool y.step.time x.step.time) ∙ h 0 x (omega arith) (omega arith))
 
-    all_after : (zs : List Step) → AllByRecursion (λ z. y.time ≤ℚ z.time) zs → AllByRecursion (λ z. x.time ≤ℚ z.time) zs
+    all_after : (zs : List Step) → AllByRecursion (λ z. y.step.time ≤ℚ z.time) zs → AllByRecursion (λ z. x.step.time ≤ℚ z.time) zs
     all_after [] a = tt
-    all_after (z ∷ zs) a = (le_trans x.time y.time z.time first a.0, all_after zs a.1)
+    all_after (z ∷ zs) a = (le_trans x.step.time y.step.time z.time first a.0, all_after zs a.1)
 
-    go : NeverFall (y ∷ ys) → NeverFall (x ∷ y ∷ ys)
-    go r = ((first, all_after ys r.0), r)
+    go : NeverFall (steps_of (y ∷ ys)) → NeverFall (steps_of (x ∷ y ∷ ys))
+    go r = ((first, all_after (steps_of ys) r.0), r)
 
 -- ---- runs
 

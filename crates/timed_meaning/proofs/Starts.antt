@@ -1,5 +1,5 @@
 -- Lines sorted by their starts are the lines by start: there is one such list.
-use Rattle.std.proofs.Common.{◌≡◌, refl, sym, ap, subst, ◌∙◌, suc, ◌+◌, Bool, true, false, cond, not, ◌&&◌, List, [], ◌∷◌, arith, ⊎_elim}
+use Rattle.std.proofs.Common.{◌≡◌, refl, sym, ap, subst, ◌∙◌, suc, ◌+◌, Bool, true, false, cond, List, [], ◌∷◌, arith, ⊎_elim}
 use Rattle.std.specs.Prelude.{slice_index_or, None}
 use Rattle.std.specs.List.{AllByRecursion, filter}
 use Rattle.std.specs.Ordering.{is_lt}
@@ -13,16 +13,15 @@ use Rattle.task_types.specs.declared.plans.PlanLine.{PlanLine}
 use Rattle.task_types.specs.Tests.{◌=?◌, ◌<?◌, ◌≤?◌}
 use Rattle.task_types.specs.Plan.{Plan}
 use Rattle.task_types.specs.Reckoned.{put_by_start, by_start}
-use Rattle.task_types.proofs.Comparisons.{not_lt_out, lt_out, eq_out, eq_in, le_in}
-use Rattle.task_types.proofs.Everyone.{filter_same, all_tabulate, filter_none}
-use Rattle.timed_meaning.proofs.Runs.{lt_bool, tie_is}
+use Rattle.task_types.proofs.Comparisons.{not_lt_out, lt_out, eq_out, le_in}
+use Rattle.task_types.proofs.Everyone.{filter_same, all_tabulate}
+use Rattle.timed_meaning.specs.declared.placing.PlacedLine.{PlacedLine}
+use Rattle.timed_meaning.specs.Owned.{lines_of}
+use Rattle.timed_meaning.proofs.Runs.{lt_bool, tie_is, same}
 use Rattle.timed_meaning.proofs.Running.{Rises, by_start-rises, running-is}
 
 abbrev pub starts_at : ℚ → Plan → Plan
 starts_at t ls = filter (λ l. l.at =? t) ls
-
-same : (t : ℚ) → (t =? t) ≡ true
-same t = eq_in t t refl
 
 -- ---- one list that rises and has given lines at each start
 
@@ -103,28 +102,39 @@ starts-by_start t ls = sym (running-is (λ l. l.at =? t) ls) ∙ by_start-still 
 
 -- ---- sorted lines
 
-sorted-rises : (xs : Plan) → IsSortedBy (λ (x y : PlanLine). is_lt (cmp_ℚ x.at y.at)) xs → Rises xs
+sorted-rises : (xs : List PlacedLine) → IsSortedBy (λ (x y : PlacedLine). is_lt (cmp_ℚ x.line.at y.line.at)) xs → Rises (lines_of xs)
 sorted-rises [] h = tt
 sorted-rises (x ∷ []) h = (tt, tt)
-sorted-rises (x ∷ y ∷ ys) h = go (sorted-rises (y ∷ ys) (λ k d l m. subst (λ i. is_lt (cmp_ℚ (slice_index_or (x ∷ y ∷ ys) i d).at (slice_index_or (y ∷ ys) k d).at) ≡ false) (let e : suc k + 1 ≡ suc (k + 1) = omega arith in e) (h (suc k) d (omega arith) (omega (arith, m)))))
+sorted-rises (x ∷ y ∷ ys) h = go (sorted-rises (y ∷ ys) (λ k d l m. subst (λ i. is_lt (cmp_ℚ (slice_index_or (x ∷ y ∷ ys) i d).line.at (slice_index_or (y ∷ ys) k d).line.at) ≡ false) (let e : suc k + 1 ≡ suc (k + 1) = omega arith in e) (h (suc k) d (omega arith) (omega (arith, m)))))
   where
-    first : x.at ≤ℚ y.at
-    first = not_lt_out y.at x.at (sym (lt_bool y.at x.at) ∙ h 0 x (omega arith) (omega arith))
+    first : x.line.at ≤ℚ y.line.at
+    first = not_lt_out y.line.at x.line.at (sym (lt_bool y.line.at x.line.at) ∙ h 0 x (omega arith) (omega arith))
 
-    all_after : (zs : Plan) → AllByRecursion (λ z. y.at ≤ℚ z.at) zs → AllByRecursion (λ z. x.at ≤ℚ z.at) zs
+    all_after : (zs : Plan) → AllByRecursion (λ z. y.line.at ≤ℚ z.at) zs → AllByRecursion (λ z. x.line.at ≤ℚ z.at) zs
     all_after [] a = tt
-    all_after (z ∷ zs) a = (le_trans x.at y.at z.at first a.0, all_after zs a.1)
+    all_after (z ∷ zs) a = (le_trans x.line.at y.line.at z.at first a.0, all_after zs a.1)
 
-    go : Rises (y ∷ ys) → Rises (x ∷ y ∷ ys)
-    go r = ((first, all_after ys r.0), r)
+    go : Rises (lines_of (y ∷ ys)) → Rises (lines_of (x ∷ y ∷ ys))
+    go r = ((first, all_after (lines_of ys) r.0), r)
 
-stable-at : (t : ℚ) (xs ys : Plan) → filter (ties (λ (x y : PlanLine). is_lt (cmp_ℚ x.at y.at)) (record { action = 0; at = t; duration = None; line = 0 })) ys ≡ filter (ties (λ (x y : PlanLine). is_lt (cmp_ℚ x.at y.at)) (record { action = 0; at = t; duration = None; line = 0 })) xs → starts_at t ys ≡ starts_at t xs
-stable-at t xs ys e = sym (alike ys) ∙ e ∙ alike xs
+starts-placed : (t : ℚ) (xs : List PlacedLine) → starts_at t (lines_of xs) ≡ lines_of (filter (λ p. p.line.at =? t) xs)
+starts-placed t [] = refl
+starts-placed t (x ∷ xs) = go (x.line.at =? t) (starts-placed t xs)
   where
-    alike : (zs : Plan) → filter (ties (λ (x y : PlanLine). is_lt (cmp_ℚ x.at y.at)) (record { action = 0; at = t; duration = None; line = 0 })) zs ≡ starts_at t zs
-    alike zs = filter_same (ties (λ (x y : PlanLine). is_lt (cmp_ℚ x.at y.at)) (record { action = 0; at = t; duration = None; line = 0 })) (λ l. l.at =? t) zs (all_tabulate (λ l. ties (λ (x y : PlanLine). is_lt (cmp_ℚ x.at y.at)) (record { action = 0; at = t; duration = None; line = 0 }) l ≡ (l.at =? t)) zs (λ l. tie_is t l.at))
+    go : (b : Bool) → starts_at t (lines_of xs) ≡ lines_of (filter (λ p. p.line.at =? t) xs) → cond b (x.line ∷ starts_at t (lines_of xs)) (starts_at t (lines_of xs)) ≡ lines_of (cond b (x ∷ filter (λ p. p.line.at =? t) xs) (filter (λ p. p.line.at =? t) xs))
+    go true r = ap (λ l. x.line ∷ l) r
+    go false r = r
 
-pub sorted-is : (ls xs : Plan) → IsSortedBy (λ (x y : PlanLine). is_lt (cmp_ℚ x.at y.at)) xs
-    → ((t : ℚ) → filter (ties (λ (x y : PlanLine). is_lt (cmp_ℚ x.at y.at)) (record { action = 0; at = t; duration = None; line = 0 })) xs ≡ filter (ties (λ (x y : PlanLine). is_lt (cmp_ℚ x.at y.at)) (record { action = 0; at = t; duration = None; line = 0 })) ls)
-    → xs ≡ by_start ls
-sorted-is ls xs s e = one_sorted xs (by_start ls) (sorted-rises xs s) (by_start-rises ls) (λ t. stable-at t ls xs (e t) ∙ sym (starts-by_start t ls))
+abbrev pub tie : ℚ → PlacedLine
+tie t = record { place = 0; line = record { action = 0; at = t; duration = None; line = 0 }; end = t }
+
+stable-at : (t : ℚ) (xs ys : List PlacedLine) → filter (ties (λ (x y : PlacedLine). is_lt (cmp_ℚ x.line.at y.line.at)) (tie t)) ys ≡ filter (ties (λ (x y : PlacedLine). is_lt (cmp_ℚ x.line.at y.line.at)) (tie t)) xs → starts_at t (lines_of ys) ≡ starts_at t (lines_of xs)
+stable-at t xs ys e = starts-placed t ys ∙ ap lines_of (sym (alike ys) ∙ e ∙ alike xs) ∙ sym (starts-placed t xs)
+  where
+    alike : (zs : List PlacedLine) → filter (ties (λ (x y : PlacedLine). is_lt (cmp_ℚ x.line.at y.line.at)) (tie t)) zs ≡ filter (λ p. p.line.at =? t) zs
+    alike zs = filter_same (ties (λ (x y : PlacedLine). is_lt (cmp_ℚ x.line.at y.line.at)) (tie t)) (λ p. p.line.at =? t) zs (all_tabulate (λ p. ties (λ (x y : PlacedLine). is_lt (cmp_ℚ x.line.at y.line.at)) (tie t) p ≡ (p.line.at =? t)) zs (λ p. tie_is t p.line.at))
+
+pub sorted-is : (ls xs : List PlacedLine) → IsSortedBy (λ (x y : PlacedLine). is_lt (cmp_ℚ x.line.at y.line.at)) xs
+    → ((t : ℚ) → filter (ties (λ (x y : PlacedLine). is_lt (cmp_ℚ x.line.at y.line.at)) (tie t)) xs ≡ filter (ties (λ (x y : PlacedLine). is_lt (cmp_ℚ x.line.at y.line.at)) (tie t)) ls)
+    → lines_of xs ≡ by_start (lines_of ls)
+sorted-is ls xs s e = one_sorted (lines_of xs) (by_start (lines_of ls)) (sorted-rises xs s) (by_start-rises (lines_of ls)) (λ t. stable-at t ls xs (e t) ∙ sym (starts-by_start t (lines_of ls)))

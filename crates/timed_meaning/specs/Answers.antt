@@ -1,5 +1,5 @@
 -- Believed: states told by two lists, and answers told by what is reckoned for them.
-use Rattle.std.specs.Prelude.{ℕ, ◌≡◌, Bool, false, List, length, slice_index_or, Result, Ok, Err}
+use Rattle.std.specs.Prelude.{◌≡◌, Bool, false, List, length, slice_index_or, Result, Ok, Err}
 use Rattle.rational.specs.Rational.{ℚ, zeroℚ}
 use Rattle.exact_lin.specs.Reckoning.{wide_limit}
 use Rattle.exact_lin.specs.Reckonings.{Reckoning, AreDefined}

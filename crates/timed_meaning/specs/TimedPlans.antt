@@ -1,5 +1,5 @@
 -- Believed: what a timed plan keeps of its lines for the task that it was built for, and what pushing a line answers.
-use Rattle.std.specs.Prelude.{ℕ, ◌≡◌, ◌≤◌, List, [], ◌∷◌, ◌++◌, length, Result, Ok, Err}
+use Rattle.std.specs.Prelude.{ℕ, ◌≡◌, ◌≤◌, [], ◌∷◌, ◌++◌, length, Result, Ok, Err}
 use Rattle.std.specs.List.{AllByRecursion}
 use Rattle.exact_lin.specs.Reckoning.{wide_limit}
 use Rattle.exact_lin.specs.Reckonings.{AreDefined}

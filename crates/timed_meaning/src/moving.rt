@@ -10,9 +10,11 @@ ghost use Rattle.exact_lin.specs.Reckonings.{Sum, Product};
 ghost use Rattle.task_types.specs.Reckoned.{by_start, move_reckoned};
 ghost use Rattle.task_types.specs.WellMade.{IsWellMade};
 ghost use Rattle.timed_meaning.specs.Told.{told, Defined, Tells, raised, raised_reckoned};
+ghost use Rattle.timed_meaning.specs.Owned.{lines_of};
 ghost use Rattle.timed_meaning.specs.Moves.{rates_on, AreLines, Motion, settled_at, settled, settled_reckoned};
 
 use crate::applying::{raise, sum};
+use crate::placing::PlacedLine;
 use exact_lin::{FluentId, FormFault, Fraction, Id, Scalar, SnapId};
 use task_types::{Action, PlanLine, TaskParts};
 
@@ -50,14 +52,15 @@ fn push_rates(
 // Gathers the rates of all running lines, in their order.
 fn gather(
     parts: &TaskParts,
-    running: &[PlanLine],
+    running: &[PlacedLine],
     out: &mut Vec<(FluentId, Fraction)>,
 ) -> Result<(), FormFault>
-    requires { AreLines parts.now running.now }
-    ensures { Tells result [] (λ _. out.new.items ≡ out.old.items ++ flat_map (rates_on parts.now) running.now) }
+    requires { AreLines parts.now (lines_of running.now) }
+    ensures { Tells result [] (λ _. out.new.items
+        ≡ out.old.items ++ flat_map (rates_on parts.now) (lines_of running.now)) }
 {
-    for line in running {
-        push_rates(parts, line, out)?;
+    for placed in running {
+        push_rates(parts, &placed.line, out)?;
     }
     Ok(())
 }
@@ -118,7 +121,7 @@ fn shift(
 /// Moves the fluents from one happening to the next, in place; the lines that run between are handed over in the order of their starts. `rates` holds 0 for each fluent, before and after.
 pub fn advance(
     parts: &TaskParts,
-    running: &[PlanLine],
+    running: &[PlacedLine],
     from: Fraction,
     to: Fraction,
     values: &mut [Fraction],
@@ -126,12 +129,12 @@ pub fn advance(
     entries: &mut Vec<(FluentId, Fraction)>,
 ) -> Result<(), FormFault>
     requires well_made { IsWellMade parts.now }
-    requires lines { AreLines parts.now running.now }
+    requires lines { AreLines parts.now (lines_of running.now) }
     requires some { 0 < length parts.now.fluents }
     requires values { length values.old ≡ length parts.now.fluents }
     requires rates { rates.old ≡ replicate (length parts.now.fluents) zeroℚ }
     requires fits { AllByRecursion (Fits wide_limit) values.old }
-    ensures state { (facts : List Bool) (plan : Plan) → running.now ≡ by_start (filter (runs_between from to) plan) → Tells result (move_reckoned parts.now plan from to (told facts values.old)) (λ _. (told facts values.new ≡ moved parts.now plan from to (told facts values.old)) × (rates.new ≡ rates.old)) }
+    ensures state { (facts : List Bool) (plan : Plan) → lines_of running.now ≡ by_start (filter (runs_between from to) plan) → Tells result (move_reckoned parts.now plan from to (told facts values.old)) (λ _. (told facts values.new ≡ moved parts.now plan from to (told facts values.old)) × (rates.new ≡ rates.old)) }
     ensures fits { OnOk result (AllByRecursion (Fits wide_limit) values.new) }
 {
     entries.clear();

@@ -10,15 +10,17 @@ ghost use Rattle.task_types.specs.Reckoned.{by_start, effects_reckoned, move_rec
 ghost use Rattle.task_types.specs.WellMade.{IsWellMade};
 ghost use Rattle.timed_meaning.specs.Told.{Tells, AreSteps};
 ghost use Rattle.timed_meaning.specs.Moves.{AreLines};
+ghost use Rattle.timed_meaning.specs.Owned.{lines_of};
 ghost use Rattle.timed_meaning.specs.Standings.{shown, IsKept};
 
 use crate::applying::happen;
 use crate::moving::advance;
+use crate::placing::PlacedLine;
 use crate::states::State;
 use crate::steps::PlanStep;
 use exact_lin::{FluentId, FormFault, Fraction, NoMemory, Scalar};
 use std::alloc::Global;
-use task_types::{Fact, Fluent, PlanLine, TaskParts};
+use task_types::{Fact, Fluent, TaskParts};
 
 /// Which facts hold and the values of the fluents, with lists that changes need on their way.
 #[derive(Drop)]
@@ -110,14 +112,14 @@ impl Standing {
     pub fn advance(
         &mut self,
         parts: &TaskParts,
-        running: &[PlanLine],
+        running: &[PlacedLine],
         from: Fraction,
         to: Fraction,
     ) -> Result<(), FormFault>
         requires well_made { IsWellMade parts.now }
         requires kept { IsKept parts.now self.old }
-        requires lines { AreLines parts.now running.now }
-        ensures { (plan : Plan) → running.now ≡ by_start (filter (runs_between from to) plan)
+        requires lines { AreLines parts.now (lines_of running.now) }
+        ensures { (plan : Plan) → lines_of running.now ≡ by_start (filter (runs_between from to) plan)
             → Tells result (move_reckoned parts.now plan from to (shown self.old))
             (λ _. IsKept parts.now self.new
             × (shown self.new ≡ moved parts.now plan from to (shown self.old))) }

@@ -2,6 +2,7 @@
 
 ghost use Rattle.std.specs.Prelude.{◌≡◌, OnOk, IsPermutation};
 ghost use Rattle.rational.specs.Rational.{ℚ};
+ghost use Rattle.timed_meaning.specs.Owned.{steps_of};
 ghost use Rattle.timed_meaning.specs.Sorts.{NeverFall, at_time, RunsAreHappenings, RunningLinesAreFiltered};
 
 use exact_lin::{Fraction, NoMemory, SnapId};
@@ -48,10 +49,27 @@ impl PlanStep {
     }
 }
 
+/// A step with its owner: the place of its line among the lines of the plan, from 0 on. The timed steps are their own
+/// owners, numbered behind the lines.
+#[derive(Clone, Copy, Drop)]
+pub struct OwnedStep {
+    pub step: PlanStep,
+    pub owner: usize,
+}
+
+impl OwnedStep {
+    pub fn time(&self) -> Fraction
+        ensures { result ≡ self.now.step.time }
+    {
+        self.step.time()
+    }
+}
+
 /// Puts steps into the order of their times, those of one time in the order in which they stand.
-pub fn sort_steps(steps: &mut Vec<PlanStep>) -> Result<(), NoMemory>
-    ensures sorted { OnOk result (NeverFall steps.new.items) }
-    ensures stable { OnOk result ((t : ℚ) → at_time t steps.new.items ≡ at_time t steps.old.items) }
+pub fn sort_steps(steps: &mut Vec<OwnedStep>) -> Result<(), NoMemory>
+    ensures sorted { OnOk result (NeverFall (steps_of steps.new.items)) }
+    ensures stable { OnOk result ((t : ℚ)
+        → at_time t (steps_of steps.new.items) ≡ at_time t (steps_of steps.old.items)) }
     ensures permutation { IsPermutation steps.old.items steps.new.items }
 {
     steps.sort_by_key(|step| step.time())?;

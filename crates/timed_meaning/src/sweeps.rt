@@ -1,6 +1,6 @@
 //! A sweep along the happenings of a plan, with the state changed in place.
 
-ghost use Rattle.std.specs.Prelude.{◌≡◌, ◌+◌, ◌++◌, ◌<◌, suc, IsTrue, OnOk, IfOk, ◌↔◌};
+ghost use Rattle.std.specs.Prelude.{◌≡◌, ◌++◌, ◌<◌, [], suc, IsTrue, OnOk, IfOk, IsPermutation, ◌↔◌};
 ghost use Rattle.std.specs.List.{filter};
 ghost use Rattle.task_types.specs.declared.parts.TaskParts.{TaskParts};
 ghost use Rattle.task_types.specs.Plan.{Plan};
@@ -8,16 +8,19 @@ ghost use Rattle.task_types.specs.Course.{count, time_of, steps_at, runs_between
 ghost use Rattle.task_types.specs.Reckoned.{by_start, effects_at, move_at};
 ghost use Rattle.timed_meaning.specs.TimedPlans.{IsBuiltFor};
 ghost use Rattle.timed_meaning.specs.Answers.{Tells, Facts, Fluents};
+ghost use Rattle.timed_meaning.specs.Owned.{owned_steps, steps_of, placed_lines, lines_of};
+ghost use Rattle.timed_meaning.specs.Sorts.{NeverFall};
 ghost use Rattle.timed_meaning.specs.Standings.{shown};
 
 use crate::agendas::Agenda;
+use crate::placing::PlacedLine;
 use crate::plans::TimedPlan;
 use crate::standings::Standing;
 use crate::states::State;
-use crate::steps::PlanStep;
+use crate::steps::{OwnedStep, PlanStep};
 use exact_lin::{FormFault, Fraction, NoMemory};
 use std::alloc::Global;
-use task_types::{PlanLine, Task};
+use task_types::Task;
 
 /// Goes along the happenings of a plan: before each of them it holds the state before it, `apply` leads to the state
 /// after it, and `advance` to the state before the next.
@@ -29,13 +32,13 @@ pub struct Sweep {
 
 impl Sweep {
     ghost use Rattle.timed_meaning.specs.Agendas.{IsAt, IsSomewhere};
-    ghost use Rattle.timed_meaning.specs.Sweeps.{IsBefore, IsAfter};
+    ghost use Rattle.timed_meaning.specs.Sweeps.{IsBefore, IsAfter, GoesOn, steps_met, steps_here};
 
     /// A sweep before the first happening of a plan, with the initial state of its task.
     pub fn begin(alloc: Global, task: &Task, plan: &TimedPlan) -> Result<Sweep, NoMemory>
         requires { IsBuiltFor task.now.parts plan.now }
         ensures { IfOk result
-            (λ s. IsBefore task.now.parts plan.now s × (s.agenda.place ≡ 0)) }
+            (λ s. IsBefore task.now.parts plan.now s × (s.agenda.place ≡ 0) × (steps_met s ≡ [])) }
     {
         let agenda = Agenda::begin(alloc, task.parts(), plan.lines())?;
         let standing = Standing::initial(alloc, task.parts())?;
@@ -63,7 +66,8 @@ impl Sweep {
             → suc self.old.agenda.place < count task.now.parts plan
             → Tells result (move_at task.now.parts plan self.old.agenda.place)
             (λ _. IsBefore task.now.parts plan self.new
-            × (self.new.agenda.place ≡ suc self.old.agenda.place)) }
+            × (self.new.agenda.place ≡ suc self.old.agenda.place)
+            × GoesOn self.old self.new) }
     {
         let from = self.agenda.time();
         let to = self.agenda.next_time();
@@ -88,7 +92,8 @@ impl Sweep {
             → Tells result (effects_at task.now.parts plan self.old.agenda.place
             ++ move_at task.now.parts plan self.old.agenda.place)
             (λ _. IsBefore task.now.parts plan self.new
-            × (self.new.agenda.place ≡ suc self.old.agenda.place)) }
+            × (self.new.agenda.place ≡ suc self.old.agenda.place)
+            × GoesOn self.old self.new) }
     {
         match self.apply(task) {
             Ok(()) => self.advance(task),
@@ -152,13 +157,40 @@ impl Sweep {
         self.agenda.next < self.agenda.steps.as_slice().len()
     }
 
-    /// The lines that run from this happening to the next, in the order of their starts.
-    pub fn running(&self) -> &[PlanLine]
-        ensures { (task : TaskParts) (plan : Plan) → IsAt task plan self.now.agenda
+    /// The steps of the happening with their owners.
+    pub fn owned_here(&self) -> &[OwnedStep]
+        requires { IsSomewhere self.now.agenda }
+        ensures here { result.now ≡ steps_here self.now }
+        ensures steps { (task : TaskParts) (plan : Plan) → IsAt task plan self.now.agenda
+            → self.now.agenda.place < count task plan
+            → steps_of result.now ≡ steps_at task plan (time_of task plan self.now.agenda.place) }
+    {
+        self.agenda.owned_here()
+    }
+
+    /// All steps of the plan with their owners, in the order of their times.
+    pub fn all_owned(&self) -> &[OwnedStep]
+        ensures all { result.now ≡ self.now.agenda.owned.items }
+        ensures steps { (task : TaskParts) (plan : Plan) → IsAt task plan self.now.agenda
+            → IsPermutation (owned_steps task plan) result.now }
+        ensures falls { (task : TaskParts) (plan : Plan) → IsAt task plan self.now.agenda
+            → NeverFall (steps_of result.now) }
+    {
+        self.agenda.owned.as_slice()
+    }
+
+    /// The lines that run from this happening to the next with their places, in the order of their starts.
+    pub fn running(&self) -> &[PlacedLine]
+        ensures lines { (task : TaskParts) (plan : Plan) → IsAt task plan self.now.agenda
             → suc self.now.agenda.place < count task plan
-            → result.now ≡ by_start (filter (runs_between
+            → lines_of result.now ≡ by_start (filter (runs_between
             (time_of task plan self.now.agenda.place)
             (time_of task plan (suc self.now.agenda.place))) plan) }
+        ensures places { (task : TaskParts) (plan : Plan) → IsAt task plan self.now.agenda
+            → suc self.now.agenda.place < count task plan
+            → IsPermutation (filter (λ p. runs_between
+            (time_of task plan self.now.agenda.place)
+            (time_of task plan (suc self.now.agenda.place)) p.line) (placed_lines plan)) result.now }
     {
         self.agenda.running.as_slice()
     }

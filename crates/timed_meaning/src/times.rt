@@ -6,7 +6,7 @@ ghost use Rattle.task_types.specs.Plan.{happenings};
 ghost use Rattle.timed_meaning.specs.TimedPlans.{IsBuiltFor};
 ghost use Rattle.timed_meaning.specs.Sorts.{NeverFall, run, after_run, times};
 
-use crate::listing::sorted_steps;
+use crate::listing::{bare_steps, sorted_steps};
 use crate::plans::TimedPlan;
 use crate::steps::PlanStep;
 use exact_lin::{Fraction, NoMemory, Scalar};
@@ -65,6 +65,7 @@ pub fn happenings(alloc: Global, task: &Task, plan: &TimedPlan) -> Result<Vec<Fr
     requires { IsBuiltFor task.now.parts plan.now }
     ensures { IfOk result (λ times. times.items ≡ happenings task.now.parts plan.now) }
 {
-    let steps = sorted_steps(alloc, task.parts(), plan.lines())?;
+    let owned = sorted_steps(alloc, task.parts(), plan.lines())?;
+    let steps = bare_steps(alloc, owned.as_slice())?;
     times_of(alloc, steps.as_slice())
 }

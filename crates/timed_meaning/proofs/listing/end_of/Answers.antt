@@ -1,4 +1,4 @@
-use Rattle.std.proofs.Common.{◌≡◌, ◌∙◌, sym, ap}
+use Rattle.std.proofs.Common.{◌∙◌, sym, ap}
 use Rattle.std.specs.Prelude.{unwrap_or}
 use Rattle.rational.specs.Rational.{zeroℚ, ◌+ℚ◌}
 use Rattle.rational.proofs.Field.{add_comm, zero_add}

@@ -1,8 +1,7 @@
 use Rattle.std.proofs.Common.{◌≡◌, ◌++◌, map, take}
-use Rattle.rational.specs.Rational.{zeroℚ}
-use Rattle.task_types.specs.Plan.{Step}
-use Rattle.timed_meaning.specs.Told.{timed_step}
+use Rattle.std.specs.List.{enumerate_from}
+use Rattle.timed_meaning.specs.Owned.{owned_moment}
 use Rattle.timed_meaning.proofs.listing.push_timed.Given as goal
 
-abbrev pub invariant-loop-timed : goal.invariant-loop-timed
-invariant-loop-timed l = l.out.items ≡ l.fn.out.items ++ map timed_step (take l.timed-index l.timed-items)
+abbrev pub invariant-loop-i : goal.invariant-loop-i
+invariant-loop-i l = l.out.items ≡ l.fn.out.items ++ map (owned_moment l.behind) (enumerate_from 0 (take l.i l.timed))

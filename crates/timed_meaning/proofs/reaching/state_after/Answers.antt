@@ -1,4 +1,4 @@
-use Rattle.std.proofs.Common.{◌≡◌, ◌∙◌, ℕ, ◌<◌, sym, ap, subst, arith}
+use Rattle.std.proofs.Common.{◌∙◌, ℕ, ◌<◌, sym, ap, subst, arith}
 use Rattle.task_types.specs.Course.{count, state_after}
 use Rattle.task_types.specs.Reckoned.{course_before, effects_at}
 use Rattle.timed_meaning.specs.Answers.{Defined}

@@ -1,11 +1,9 @@
 use Rattle.std.proofs.Common.{◌≡◌, ◌∙◌, ℕ, ◌<◌, ◌++◌, suc, sym, ap, subst, add-one, arith}
-use Rattle.std.specs.Prelude.{Err}
 use Rattle.exact_lin.specs.Reckoning.{wide_limit}
 use Rattle.exact_lin.specs.Reckonings.{AllDefined}
-use Rattle.exact_lin.specs.declared.faults.FormFault.{FormFault}
 use Rattle.task_types.specs.Course.{count}
 use Rattle.task_types.specs.Reckoned.{course_before, effects_at, move_at}
-use Rattle.timed_meaning.specs.Answers.{Defined, Tells}
+use Rattle.timed_meaning.specs.Answers.{Defined}
 use Rattle.timed_meaning.proofs.Courses.{course-onward, course-stop}
 use Rattle.timed_meaning.proofs.reaching.sweep_to.Goals as goal
 

@@ -1,4 +1,4 @@
-use Rattle.std.proofs.Common.{◌∙◌, ◌≡◌, ◌<◌, length, true, false, arith, sym, ap, subst}
+use Rattle.std.proofs.Common.{◌∙◌, sym, ap}
 use Rattle.task_types.specs.Tests.{◌=?◌}
 use Rattle.timed_meaning.proofs.Left.{run-stops, run-goes}
 use Rattle.timed_meaning.proofs.times.run_length.Goals as goal

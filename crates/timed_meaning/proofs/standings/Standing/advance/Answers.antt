@@ -1,4 +1,4 @@
-use Rattle.std.proofs.Common.{◌≡◌, ◌∙◌, sym}
+use Rattle.std.proofs.Common.{◌∙◌, sym}
 use Rattle.timed_meaning.proofs.Advancing.{unmoved}
 use Rattle.timed_meaning.proofs.standings.Standing.advance.Goals as goal
 

@@ -1,4 +1,4 @@
-use Rattle.std.proofs.Common.{◌≡◌, ◌∙◌, ap, map}
+use Rattle.std.proofs.Common.{◌∙◌, ap, map}
 use Rattle.task_types.specs.Course.{initial}
 use Rattle.timed_meaning.specs.Answers.{told}
 use Rattle.timed_meaning.proofs.standings.Standing.initial.Goals as goal

@@ -1,4 +1,4 @@
-use Rattle.std.proofs.Common.{◌≡◌, ◌∙◌, ap, subst}
+use Rattle.std.proofs.Common.{◌∙◌, ap, subst, take}
 use Rattle.task_types.specs.declared.parts.TaskParts.{TaskParts}
 use Rattle.task_types.specs.Plan.{Plan}
 use Rattle.task_types.specs.Course.{initial}
@@ -15,4 +15,5 @@ returns c = (
     state = c.in_ok-standing.ensures.state ∙ ap initial c.parts-2.ensures ∙ first-state c.args.task.now.parts c.args.plan.now c.in_ok-agenda.agenda.place c.in_ok-agenda.ensures.1;
   },
   c.in_ok-agenda.ensures.1,
+  ap (λ k. take k c.in_ok-agenda.agenda.owned.items) c.in_ok-agenda.ensures.2,
 )

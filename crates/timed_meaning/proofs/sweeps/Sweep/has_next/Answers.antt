@@ -1,6 +1,5 @@
-use Rattle.std.proofs.Common.{◌≡◌, ◌<◌, subst, sym, length}
+use Rattle.std.proofs.Common.{◌<◌, subst, sym, length}
 use Rattle.basics.proofs.Naturals.{lt_in, lt_out}
-use Rattle.task_types.specs.Plan.{Step}
 use Rattle.timed_meaning.proofs.Onward.{more-in, more-out}
 use Rattle.timed_meaning.proofs.sweeps.Sweep.has_next.Goals as goal
 
