@@ -12,12 +12,12 @@ fn split_words(alloc: Global, line: &str) -> Result<Vec<String>, AllocError> {
     Ok(words)
 }
 
-fn are_limits(limits: Limits, epsilon: (i128, u128), horizon: (i128, u128)) -> bool {
+fn are_limits(limits: Limits, epsilon: (i128, i128), horizon: (i128, i128)) -> bool {
     Fraction::of_parts(epsilon.0, epsilon.1) == Some(limits.epsilon)
         && Fraction::of_parts(horizon.0, horizon.1) == Some(limits.horizon)
 }
 
-fn is_validate(alloc: Global, line: &str, epsilon: (i128, u128), horizon: (i128, u128)) -> bool {
+fn is_validate(alloc: Global, line: &str, epsilon: (i128, i128), horizon: (i128, i128)) -> bool {
     let Ok(words) = split_words(alloc, line) else {
         return false;
     };
