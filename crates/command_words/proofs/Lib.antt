@@ -1,0 +1,4 @@
+pub mod Grammar
+pub mod Read
+pub mod Asked
+pub mod One

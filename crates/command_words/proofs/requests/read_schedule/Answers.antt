@@ -1,0 +1,14 @@
+use Rattle.command_words.specs.Grammar.{texts}
+use Rattle.command_words.specs.Forms.{form_seen}
+use Rattle.command_words.specs.Requests.{schedule_form, SetsSchedule}
+use Rattle.command_words.proofs.Asked.{asked_by, not_taken}
+use Rattle.command_words.proofs.Grammar.{schedule_words}
+use Rattle.command_words.proofs.requests.read_schedule.Goals as goal
+
+pub returns-in-Some : goal.returns-in-Some
+returns-in-Some c =
+    asked_by (form_seen c.schedule_form.result) schedule_form SetsSchedule (texts c.args.words.now) c.in_ok-matches.field-0 c.in-Some.matches c.schedule_asked.result (schedule_words c.args.words.now c.requires) c.schedule_form.ensures c.in-Some.is c.in_ok-matches.ensures c.requires c.schedule_asked.ensures
+
+pub returns-in-None : goal.returns-in-None
+returns-in-None c =
+    not_taken (form_seen c.schedule_form.result) schedule_form SetsSchedule (texts c.args.words.now) c.in_ok-matches.field-0 (schedule_words c.args.words.now c.requires) c.schedule_form.ensures c.in-None.is c.in_ok-matches.ensures

@@ -1,0 +1,5 @@
+pub mod Grammar
+pub mod Values
+pub mod Requests
+pub mod Rows
+pub mod Forms
