@@ -89,7 +89,7 @@ module _ (task : TaskParts) where
   pub timed-few : IsWellMade task → length task.timed ≤ 64
   timed-few w = le_out (length task.timed) 64 (and_left _ _ (and_left _ _ w.timed))
 
-  pub few-steps : (plan : Plan) (xs : List Step) → IsWellMade task → IsBuiltFor task plan → IsPermutation (steps task plan) xs → length xs < 2 ^ 32
+  pub few-steps : (plan : Plan) (xs : List Step) → IsWellMade task → IsBuiltFor task plan → IsPermutation (steps task plan) xs → length xs ≤ 8256
   few-steps plan xs w b p =
       let e : length xs ≡ length (steps task plan) = length_permutation (steps task plan) xs p in
       let a : length (steps task plan) ≡ length (plan_steps task plan) + length (timed_steps task) = length-append (plan_steps task plan) (timed_steps task) in
@@ -101,10 +101,10 @@ module _ (task : TaskParts) where
 
   -- ---- how many happenings there are
 
-  pub few-happenings : (plan : Plan) → IsWellMade task → IsBuiltFor task plan → count task plan < 2 ^ 32
+  pub few-happenings : (plan : Plan) → IsWellMade task → IsBuiltFor task plan → count task plan ≤ 8256
   unfolding happenings
   few-happenings plan w b =
       let c : length (ascending (map (λ s. s.time) (steps task plan))) ≤ length (map (λ s. s.time) (steps task plan)) = length-ascending (map (λ s. s.time) (steps task plan)) in
       let m : length (map (λ (s : Step). s.time) (steps task plan)) ≡ length (steps task plan) = length-map (steps task plan) (λ s. s.time) in
-      let f : length (steps task plan) < 2 ^ 32 = few-steps plan (steps task plan) w b (IsPermutation-refl (steps task plan)) in
+      let f : length (steps task plan) ≤ 8256 = few-steps plan (steps task plan) w b (IsPermutation-refl (steps task plan)) in
       omega (arith, c, m, f)

@@ -15,10 +15,11 @@ module _ (task : TaskParts) (plan : Plan) (old : Sweep) (at : IsAt task plan old
   met-here = ap (λ k. take k old.agenda.owned.items) (let e : old.agenda.next ≡ old.agenda.first + (old.agenda.next - old.agenda.first) = omega (arith, at.next) in e)
       ∙ take-parts old.agenda.first (old.agenda.next - old.agenda.first) old.agenda.owned.items
 
-  pub goes-on : (new : Sweep) → new.agenda.first ≡ old.agenda.next → new.agenda.owned ≡ old.agenda.owned → GoesOn old new
-  goes-on new f o = record {
+  pub goes-on : (new : Sweep) → new.agenda.first ≡ old.agenda.next → new.agenda.owned ≡ old.agenda.owned → new.agenda.lines ≡ old.agenda.lines → GoesOn old new
+  goes-on new f o l = record {
     met = ap (λ k. take k new.agenda.owned.items) f ∙ ap (λ v. take old.agenda.next v.items) o ∙ met-here;
     same = o;
+    lines = l;
   }
 
   -- at the last happening the steps met and those here are all
@@ -29,4 +30,5 @@ pub goes-on-from : (s t new : Sweep) → t.agenda ≡ s.agenda → GoesOn t new 
 goes-on-from s t new e g = record {
   met = g.met ∙ ap (λ a. take a.first a.owned.items ++ owned_here_of a) e;
   same = g.same ∙ ap (λ a. a.owned) e;
+  lines = g.lines ∙ ap (λ a. a.lines) e;
 }

@@ -1,5 +1,5 @@
 -- Believed: how a sweep stands to the happenings of a plan; a reader needs only what its calls say where this holds.
-use Rattle.std.specs.Prelude.{ℕ, suc, ◌≡◌, ◌+◌, ◌-◌, ◌^◌, ◌<◌, ◌≤◌, map, slice_index_or, List, [], ◌∷◌, ◌++◌, length, drop, take, IsPermutation}
+use Rattle.std.specs.Prelude.{ℕ, suc, ◌≡◌, ◌+◌, ◌-◌, ◌<◌, ◌≤◌, map, slice_index_or, List, [], ◌∷◌, ◌++◌, length, drop, take, IsPermutation}
 use Rattle.std.specs.List.{AllByRecursion, filter}
 use Rattle.rational.specs.Rational.{ℚ, zeroℚ}
 use Rattle.task_types.specs.declared.parts.TaskParts.{TaskParts}
@@ -53,7 +53,7 @@ pub record AreListed (task : TaskParts) (plan : Plan) (all : List OwnedStep) (so
   pub owned : IsPermutation (owned_steps task plan) all
   pub left : Left task plan 0 (steps_of all)
   pub known : AreSteps task (steps_of all)
-  pub few : length (steps_of all) < 2 ^ 32
+  pub few : length (steps_of all) ≤ 8256
   pub lines : lines_of sorted ≡ by_start plan
   pub placed : IsPermutation (placed_lines plan) sorted
   pub lines_known : AreLines task (lines_of sorted)

@@ -1,5 +1,5 @@
 -- Believed: a sweep is before or after a happening of a plan; a reader needs only what its calls say where this holds.
-use Rattle.std.specs.Prelude.{◌≡◌, ◌++◌, List, take}
+use Rattle.std.specs.Prelude.{◌≡◌, ◌++◌, suc, List, take}
 use Rattle.task_types.specs.declared.parts.TaskParts.{TaskParts}
 use Rattle.task_types.specs.Plan.{Plan}
 use Rattle.task_types.specs.Course.{state_before, state_after}
@@ -20,6 +20,12 @@ pub record IsAfter (task : TaskParts) (plan : Plan) (s : Sweep) : Type 0 where
   pub kept : IsKept task s.standing
   pub state : shown s.standing ≡ state_after task plan s.agenda.place
 
+-- It still has what belongs to that happening, and holds the state before the next.
+pub record IsBetween (task : TaskParts) (plan : Plan) (s : Sweep) : Type 0 where
+  pub at : IsAt task plan s.agenda
+  pub kept : IsKept task s.standing
+  pub state : shown s.standing ≡ state_before task plan (suc s.agenda.place)
+
 -- the steps of the happenings before its own, and those of its own, with their owners
 abbrev pub steps_met : Sweep → List OwnedStep
 steps_met s = take s.agenda.first s.agenda.owned.items
@@ -27,7 +33,8 @@ steps_met s = take s.agenda.first s.agenda.owned.items
 abbrev pub steps_here : Sweep → List OwnedStep
 steps_here s = owned_here_of s.agenda
 
--- It goes on along the same steps, having met those of the happening that it leaves.
+-- It goes on along the same steps and lines, having met the steps of the happening that it leaves.
 pub record GoesOn (old new : Sweep) : Type 0 where
   pub met : steps_met new ≡ steps_met old ++ steps_here old
   pub same : new.agenda.owned ≡ old.agenda.owned
+  pub lines : new.agenda.lines ≡ old.agenda.lines

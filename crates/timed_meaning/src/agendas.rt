@@ -155,7 +155,8 @@ impl Agenda {
         requires more { self.old.next < length self.old.steps.items }
         ensures { (task : TaskParts) (plan : Plan) → IsAt task plan self.old
             → OnOk result (IsAt task plan self.new × (self.new.place ≡ suc self.old.place)
-            × (self.new.first ≡ self.old.next) × (self.new.owned ≡ self.old.owned)) }
+            × (self.new.first ≡ self.old.next) × (self.new.owned ≡ self.old.owned)
+            × (self.new.lines ≡ self.old.lines)) }
     {
         self.place += 1;
         self.first = self.next;

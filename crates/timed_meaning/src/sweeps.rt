@@ -32,7 +32,7 @@ pub struct Sweep {
 
 impl Sweep {
     ghost use Rattle.timed_meaning.specs.Agendas.{IsAt, IsSomewhere};
-    ghost use Rattle.timed_meaning.specs.Sweeps.{IsBefore, IsAfter, GoesOn, steps_met, steps_here};
+    ghost use Rattle.timed_meaning.specs.Sweeps.{IsBefore, IsAfter, IsBetween, GoesOn, steps_met, steps_here};
 
     /// A sweep before the first happening of a plan, with the initial state of its task.
     pub fn begin(alloc: Global, task: &Task, plan: &TimedPlan) -> Result<Sweep, NoMemory>
@@ -58,6 +58,35 @@ impl Sweep {
         self.standing.happen(task.parts(), self.agenda.here())
     }
 
+    /// Moves the state on to the next happening; the steps and the lines are still those of the happening behind it.
+    pub fn move_on(&mut self, task: &Task) -> Result<(), FormFault>
+        requires { (plan : Plan) × IsAfter task.now.parts plan self.old
+            × (suc self.old.agenda.place < count task.now.parts plan) }
+        ensures { (plan : Plan) → IsAfter task.now.parts plan self.old
+            → suc self.old.agenda.place < count task.now.parts plan
+            → Tells result (move_at task.now.parts plan self.old.agenda.place)
+            (λ _. IsBetween task.now.parts plan self.new
+            × (self.new.agenda ≡ self.old.agenda)) }
+    {
+        let from = self.agenda.time();
+        let to = self.agenda.next_time();
+        let running = self.agenda.running.as_slice();
+        self.standing.advance(task.parts(), running, from, to)
+    }
+
+    /// Turns to the next happening, to which the state has been moved.
+    pub fn turn(&mut self) -> Result<(), NoMemory>
+        requires { (task : TaskParts) × (plan : Plan) × IsBetween task plan self.old
+            × (suc self.old.agenda.place < count task plan) }
+        ensures { (task : TaskParts) (plan : Plan) → IsBetween task plan self.old
+            → suc self.old.agenda.place < count task plan
+            → OnOk result (IsBefore task plan self.new
+            × (self.new.agenda.place ≡ suc self.old.agenda.place)
+            × GoesOn self.old self.new) }
+    {
+        self.agenda.advance()
+    }
+
     /// Moves on to the next happening.
     pub fn advance(&mut self, task: &Task) -> Result<(), FormFault>
         requires { (plan : Plan) × IsAfter task.now.parts plan self.old
@@ -69,13 +98,8 @@ impl Sweep {
             × (self.new.agenda.place ≡ suc self.old.agenda.place)
             × GoesOn self.old self.new) }
     {
-        let from = self.agenda.time();
-        let to = self.agenda.next_time();
-        match self
-            .standing
-            .advance(task.parts(), self.agenda.running.as_slice(), from, to)
-        {
-            Ok(()) => match self.agenda.advance() {
+        match self.move_on(task) {
+            Ok(()) => match self.turn() {
                 Ok(()) => Ok(()),
                 Err(_) => Err(FormFault::Memory),
             },
@@ -103,20 +127,26 @@ impl Sweep {
 
     /// Which facts hold in the state.
     pub fn facts(&self) -> &[bool]
+        ensures held { result.now ≡ self.now.standing.facts.items }
         ensures before { (task : TaskParts) (plan : Plan) → IsBefore task plan self.now
             → Facts task result.now (state_before task plan self.now.agenda.place) }
         ensures after { (task : TaskParts) (plan : Plan) → IsAfter task plan self.now
             → Facts task result.now (state_after task plan self.now.agenda.place) }
+        ensures between { (task : TaskParts) (plan : Plan) → IsBetween task plan self.now
+            → Facts task result.now (state_before task plan (suc self.now.agenda.place)) }
     {
         self.standing.facts.as_slice()
     }
 
     /// The values of the fluents in the state.
     pub fn fluents(&self) -> &[Fraction]
+        ensures held { result.now ≡ self.now.standing.fluents.items }
         ensures before { (task : TaskParts) (plan : Plan) → IsBefore task plan self.now
             → Fluents task result.now (state_before task plan self.now.agenda.place) }
         ensures after { (task : TaskParts) (plan : Plan) → IsAfter task plan self.now
             → Fluents task result.now (state_after task plan self.now.agenda.place) }
+        ensures between { (task : TaskParts) (plan : Plan) → IsBetween task plan self.now
+            → Fluents task result.now (state_before task plan (suc self.now.agenda.place)) }
     {
         self.standing.fluents.as_slice()
     }
@@ -181,6 +211,7 @@ impl Sweep {
 
     /// The lines that run from this happening to the next with their places, in the order of their starts.
     pub fn running(&self) -> &[PlacedLine]
+        ensures held { result.now ≡ self.now.agenda.running.items }
         ensures lines { (task : TaskParts) (plan : Plan) → IsAt task plan self.now.agenda
             → suc self.now.agenda.place < count task plan
             → lines_of result.now ≡ by_start (filter (runs_between

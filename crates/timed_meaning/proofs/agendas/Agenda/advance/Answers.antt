@@ -19,4 +19,5 @@ returns c = λ task plan at.
       add-one c.args.self.now.place,
       refl,
       refl,
+      refl,
     )
