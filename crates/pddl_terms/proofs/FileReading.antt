@@ -107,7 +107,7 @@ module _ {A : Type 0} (wrong : Lexed → List ℕ) (told : Lexed → A) (later :
         fault = inr (record { tokens = tokens; lexes = lexes; shape = shape; offence = offence });
         taken = λ tree d.
             let none : ◌≡◌ {A = Option PddlFault} (Some (At kind place)) None =
-                sym offence ∙ ap (λ l. later (told l)) (sym (same d.tokens d.lexes)) ∙ ap later (sym d.tree_is) ∙ d.right in absurd cc;
+            sym offence ∙ ap (λ l. later (told l)) (sym (same d.tokens d.lexes)) ∙ ap later (sym d.tree_is) ∙ d.right in absurd cc;
         refused = refused;
       }
         where

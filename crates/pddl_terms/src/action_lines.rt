@@ -85,9 +85,7 @@ pub(crate) fn action_takes(place: ActionPlace, word: &[u8], kind: TokenKind) -> 
     ensures { result ≡ action_takes place word.now kind }
 {
     match place {
-        ActionPlace::Name(sort) => {
-            only_if(is_name(kind), Rest::Action(ActionPlace::Head(sort)))
-        }
+        ActionPlace::Name(sort) => { only_if(is_name(kind), Rest::Action(ActionPlace::Head(sort))) }
         ActionPlace::Head(sort) => head_takes(sort, word),
         ActionPlace::Body(sort) => body_takes(sort, word),
         ActionPlace::Timed => timed_takes(word),

@@ -25,8 +25,8 @@ ghost use Rattle.pddl_terms.specs.Domains.{
 };
 
 use crate::domain_heads::{
-    DomainHead, EffHead, TimedCondHead, TimedEffHead, domain_head, eff_head,
-    is_left_out_of_effect, timed_cond_head, timed_eff_head,
+    DomainHead, EffHead, TimedCondHead, TimedEffHead, domain_head, eff_head, is_left_out_of_effect,
+    timed_cond_head, timed_eff_head,
 };
 use crate::grammar::{
     ActionPlace, DomainGiven, DomainLine, DomainRest, Line, Listed, Rest, domain_after, only_if,

@@ -30,19 +30,19 @@ mod trees;
 pub mod typed;
 pub mod words;
 
+pub use domain_heads::{DomainHead, EffHead, TimedCondHead, TimedEffHead};
 pub use faults::{Kind, PddlFault, of_lexer, tokens_of};
 pub use files::{
     ActionBody, ActionDef, Aim, CostCurve, Declared, Domain, InitEntry, Metric, PieceDef, Problem,
     TimeCost, TimedLiteral,
 };
-pub use domain_heads::{DomainHead, EffHead, TimedCondHead, TimedEffHead};
 pub use grammar::{
     ActionPlace, ActionSort, DomainGiven, DomainLine, DomainRest, Line, Listed, ProblemGiven,
     ProblemLine, ProblemRest, Rest,
 };
 pub use heads::{ConHead, CondHead, DurHead, ExprHead, TrailHead, TreeHead};
-pub use problem_heads::{GoalHead, InitHead, MeasureHead, ProblemHead, SoftHead};
 pub use laws::{first_is_least, no_text_goes_further, some_text_goes_so_far};
+pub use problem_heads::{GoalHead, InitHead, MeasureHead, ProblemHead, SoftHead};
 pub use readers::{
     read_condition, read_constraint, read_duration, read_expression, read_tree, read_typed,
 };

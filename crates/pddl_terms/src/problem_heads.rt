@@ -4,9 +4,7 @@ ghost use Rattle.std.specs.Prelude.{◌≡◌};
 ghost use Rattle.pddl_terms.specs.Problems.{problem_head, init_head};
 ghost use Rattle.pddl_terms.specs.Goals.{goal_head, compared_soft, soft_head, measure_head};
 
-use crate::heads::{
-    CondHead, ExprHead, TreeHead, comparison_of, cond_head, expr_head, tree_head,
-};
+use crate::heads::{CondHead, ExprHead, TreeHead, comparison_of, cond_head, expr_head, tree_head};
 use crate::trees::Comparison;
 use crate::words::{is_left_out, same_word};
 

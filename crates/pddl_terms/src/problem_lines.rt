@@ -128,10 +128,7 @@ fn goal_cond_rest(head: CondHead, kind: TokenKind) -> Option<Rest>
 {
     match head {
         CondHead::And => Some(Rest::Many(Line::Problem(ProblemLine::Goal))),
-        CondHead::Forall => Some(Rest::Two(
-            Line::VariableList,
-            Line::Problem(ProblemLine::Goal),
-        )),
+        CondHead::Forall => Some(Rest::Two(Line::VariableList, Line::Problem(ProblemLine::Goal))),
         CondHead::LeftOut
         | CondHead::Not
         | CondHead::Equal
