@@ -29,7 +29,7 @@ word-same place (Word w more) y s = ap word_ahead s.1
 word-same place (Inner at inner more) y s = ap word_ahead s.2
 
 -- the place lies in the list
-through-within : (low place : ℕ) (x y : Content) → Ascends low x → SameThrough place x y → place ≤ close_of x
+pub through-within : (low place : ℕ) (x y : Content) → Ascends low x → SameThrough place x y → place ≤ close_of x
 through-within low place (End close) y a s = omega (arith, s.0)
 through-within low place (Word w more) y a s = by_part s.2 (λ t. through-within (suc w.at) place more s.0 a.1 t)
   where
@@ -48,7 +48,7 @@ through-within low place (Inner at inner more) y a s =
     by_part (inr (inl t)) held next = let end = ascends-close (suc (close_of inner)) more a.2 in omega (arith, end, held t)
     by_part (inr (inr t)) held next = next t.1
 
-first-append : (xs ys : List ℕ) (place : ℕ) → IsFirst place xs → IsFirst place (xs ++ ys)
+pub first-append : (xs ys : List ℕ) (place : ℕ) → IsFirst place xs → IsFirst place (xs ++ ys)
 first-append xs ys place f = (f.0 ++ ys, ap (λ l. l ++ ys) f.1)
 
 pub stops : (x : Content) (r : Rest) (low place : ℕ) (y : Content) → Ascends low x → IsFirst place (wrong r x) → SameThrough place x y → IsFirst place (wrong r y)
@@ -118,7 +118,7 @@ stops (Inner at inner more) r low place y a f s =
     by_part (inr (inl t)) held next = by_enters (enters r (word_ahead inner)) (alike (word-same place inner s.0 t)) f (λ n g. in_held t n (held n t) g)
     by_part (inr (inr t)) held next = by_enters (enters r (word_ahead inner)) (alike (ap word_ahead t.0)) f (λ n g. in_next t.0 n (next (leaves r (word_ahead inner)) t.1) g)
 
-token-some : (l : Lexed) (i : ℕ) (d : Token) → AreTokens l.text l.tokens → i < length l.tokens → (slice_index_or l.tokens i d).at < (slice_index_or l.tokens i d).end
+pub token-some : (l : Lexed) (i : ℕ) (d : Token) → AreTokens l.text l.tokens → i < length l.tokens → (slice_index_or l.tokens i d).at < (slice_index_or l.tokens i d).end
 token-some l i d a h = (spans_within l.text 0 (length l.text) l.tokens a.spans i (slice_index_or l.tokens i d) (get_from_read l.tokens i d h)).1
 
 -- the same of what stands at a token of a text, where a line is wanted

@@ -10,7 +10,19 @@ use Rattle.pddl_terms.specs.declared.faults.Kind.{Kind}
 use Rattle.pddl_terms.specs.declared.faults.Kind.TheVariants.{Shape}
 use Rattle.pddl_terms.specs.declared.faults.PddlFault.{PddlFault}
 use Rattle.pddl_terms.specs.declared.faults.PddlFault.TheVariants.{Lex, At, Memory}
+use Rattle.pddl_terms.specs.declared.grammar.DomainLine.TheVariants as of_domain
+use Rattle.pddl_terms.specs.declared.grammar.ProblemLine.TheVariants as of_problem
+use Rattle.pddl_terms.specs.declared.grammar.Line.TheVariants as line
+use Rattle.pddl_terms.specs.declared.grammar.Rest.{Rest}
+use Rattle.pddl_terms.specs.declared.grammar.Rest.TheVariants.{One}
 use Rattle.pddl_terms.specs.Shape.{IsFirst}
+
+-- the line of a whole domain, or of a whole problem, and nothing behind it
+abbrev pub domain_file : Rest
+domain_file = One (line.Domain of_domain.File)
+
+abbrev pub problem_file : Rest
+problem_file = One (line.Problem of_problem.File)
 
 abbrev pub lexed : List ℕ → List Token → Lexed
 lexed text tokens = record { text = text; tokens = tokens }

@@ -7,6 +7,7 @@ ghost use Rattle.pddl_terms.specs.declared.grammar.Line.{Line};
 ghost use Rattle.pddl_terms.specs.declared.grammar.Rest.{Rest};
 ghost use Rattle.pddl_terms.specs.declared.grammar.Rest.TheVariants.{One};
 ghost use Rattle.pddl_terms.specs.Content.{Content, content_at};
+ghost use Rattle.pddl_terms.specs.Files.{domain_file, problem_file};
 ghost use Rattle.pddl_terms.specs.Shape.{wrong, wrong_item, IsFirst};
 ghost use Rattle.pddl_terms.specs.Order.{Ascends, IsLeast};
 ghost use Rattle.pddl_terms.specs.Beginnings.{SameBefore, SameThrough, may_go_on};
@@ -40,4 +41,10 @@ pub fn no_text_goes_further()
         → SameThrough place (content_at forms at) y → IsFirst place (wrong_item l y) }
     ensures list { (low : ℕ) (x y : Content) (r : Rest) (place : ℕ) → Ascends low x → IsFirst place (wrong r x)
         → SameThrough place x y → IsFirst place (wrong r y) }
+    ensures domain { (forms : Lexed) (place : ℕ) (y : Content) → AreTokens forms.text forms.tokens
+        → IsFirst place (wrong domain_file (content_at forms 0)) → SameThrough place (content_at forms 0) y
+        → IsFirst place (wrong domain_file y) }
+    ensures problem { (forms : Lexed) (place : ℕ) (y : Content) → AreTokens forms.text forms.tokens
+        → IsFirst place (wrong problem_file (content_at forms 0)) → SameThrough place (content_at forms 0) y
+        → IsFirst place (wrong problem_file y) }
 {}
