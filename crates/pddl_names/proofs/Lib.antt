@@ -1,2 +1,6 @@
+pub mod Calling
+pub mod Chains
+pub mod Least
 pub mod Numbered
 pub mod Tabled
+pub mod WalkSteps

@@ -2,10 +2,18 @@
 //! name that isn't declared or is declared twice, the first term of a wrong type.
 #![tactic(auto)]
 
+mod calls;
+mod declarations;
 mod equality;
+mod expressions;
+mod fitting;
 mod names;
+mod offences;
+mod scope;
 mod tables;
 
 pub use equality::is_equality;
+pub use fitting::fits;
 pub use names::Names;
+pub use offences::{Offence, Phase};
 pub use tables::Table;
