@@ -1,5 +1,6 @@
 pub mod Calling
 pub mod Chains
+pub mod Doubling
 pub mod Least
 pub mod Numbered
 pub mod Tabled

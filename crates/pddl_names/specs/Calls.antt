@@ -31,7 +31,7 @@ in_names phase.Names offences = offences
 in_names phase.Types offences = []
 
 -- each name that stood before: among these, or earlier in the list
-unfoldable pub doubles : List Text → List Name → List Offence
+abbrev pub doubles : List Text → List Name → List Offence
 doubles seen [] = []
 doubles seen (n ∷ more) = (if among seen n.bytes then offence kind.Double n.at ∷ [] else []) ++ doubles (with_new seen (n.bytes ∷ [])) more
 

@@ -11,6 +11,7 @@ mod names;
 mod offences;
 mod scope;
 mod tables;
+mod typed_lists;
 
 pub use equality::is_equality;
 pub use fitting::fits;
