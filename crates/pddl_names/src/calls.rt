@@ -18,6 +18,9 @@ ghost use Rattle.pddl_names.specs.Calls.{
   misfits,
   sorts_offences,
   call_offences,
+  atom_offences,
+  fluent_offences,
+  in_names,
 };
 
 use crate::declarations::Tables;
@@ -25,7 +28,7 @@ use crate::fitting::fits;
 use crate::offences::{Offence, Phase, earlier};
 use crate::scope::{Scope, sort_in};
 use crate::tables::Table;
-use pddl_terms::{Group, Kind, Name, Term, TypeName};
+use pddl_terms::{Atom, Group, Kind, Name, Term, TypeName};
 use sqlite_items::Items;
 
 /// The offence of a name that isn't declared.
@@ -208,5 +211,57 @@ pub(crate) fn first_in_call(
             None => None,
             Some(sorts) => first_in_sorts(tables, scope, at, terms, sorts.as_slice()),
         },
+    }
+}
+
+/// The first offence of a predicate with its terms.
+pub(crate) fn first_in_atom(
+    phase: Phase,
+    tables: &Tables,
+    scope: &Scope,
+    atom: &Atom,
+) -> Option<Offence>
+    ensures { result ≡ least (atom_offences phase tables.now (variables_of scope.now) atom.now) }
+{
+    let terms = atom.terms.as_slice();
+    first_in_call(
+        phase,
+        tables,
+        &tables.predicates,
+        scope,
+        atom.at,
+        &atom.name,
+        terms,
+    )
+}
+
+/// The first offence of a function with its terms.
+pub(crate) fn first_in_fluent(
+    phase: Phase,
+    tables: &Tables,
+    scope: &Scope,
+    fluent: &Atom,
+) -> Option<Offence>
+    ensures { result ≡ least (fluent_offences phase tables.now (variables_of scope.now) fluent.now) }
+{
+    let terms = fluent.terms.as_slice();
+    first_in_call(
+        phase,
+        tables,
+        &tables.functions,
+        scope,
+        fluent.at,
+        &fluent.name,
+        terms,
+    )
+}
+
+/// The offence of a name that isn't declared, where names are looked at.
+pub(crate) fn named(phase: Phase, known: bool, name: &Name) -> Option<Offence>
+    ensures { result ≡ least (in_names phase (undeclared known name.now)) }
+{
+    match phase {
+        Phase::Names => undeclared(known, name),
+        Phase::Types => None,
     }
 }

@@ -3,71 +3,13 @@
 ghost use Rattle.std.specs.Prelude.{◌≡◌};
 ghost use Rattle.pddl_names.specs.Offences.{least};
 ghost use Rattle.pddl_names.specs.Scopes.{variables_of};
-ghost use Rattle.pddl_names.specs.Calls.{
-  undeclared,
-  in_names,
-  atom_offences,
-  fluent_offences,
-};
 ghost use Rattle.pddl_names.specs.Walks.{expression_offences, duration_offences};
 
-use crate::calls::{first_in_call, undeclared};
+use crate::calls::{first_in_fluent, named};
 use crate::declarations::Tables;
 use crate::offences::{Offence, Phase, earlier};
 use crate::scope::Scope;
-use pddl_terms::{Atom, DurTree, ExprTree, Name};
-
-/// The first offence of a predicate with its terms.
-pub(crate) fn first_in_atom(
-    phase: Phase,
-    tables: &Tables,
-    scope: &Scope,
-    atom: &Atom,
-) -> Option<Offence>
-    ensures { result ≡ least (atom_offences phase tables.now (variables_of scope.now) atom.now) }
-{
-    let terms = atom.terms.as_slice();
-    first_in_call(
-        phase,
-        tables,
-        &tables.predicates,
-        scope,
-        atom.at,
-        &atom.name,
-        terms,
-    )
-}
-
-/// The first offence of a function with its terms.
-pub(crate) fn first_in_fluent(
-    phase: Phase,
-    tables: &Tables,
-    scope: &Scope,
-    fluent: &Atom,
-) -> Option<Offence>
-    ensures { result ≡ least (fluent_offences phase tables.now (variables_of scope.now) fluent.now) }
-{
-    let terms = fluent.terms.as_slice();
-    first_in_call(
-        phase,
-        tables,
-        &tables.functions,
-        scope,
-        fluent.at,
-        &fluent.name,
-        terms,
-    )
-}
-
-/// The offence of a name that isn't declared, where names are looked at.
-pub(crate) fn named(phase: Phase, known: bool, name: &Name) -> Option<Offence>
-    ensures { result ≡ least (in_names phase (undeclared known name.now)) }
-{
-    match phase {
-        Phase::Names => undeclared(known, name),
-        Phase::Types => None,
-    }
-}
+use pddl_terms::{DurTree, ExprTree};
 
 /// The first offence in an expression.
 pub(crate) fn first_in_expression(

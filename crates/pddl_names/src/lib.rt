@@ -3,13 +3,19 @@
 #![tactic(auto)]
 
 mod calls;
+mod conditions;
+mod constraints;
 mod declarations;
+mod effects;
 mod equality;
 mod expressions;
 mod fitting;
+mod formulas;
+mod goals;
 mod names;
 mod offences;
 mod scope;
+mod sides;
 mod tables;
 mod typed_lists;
 

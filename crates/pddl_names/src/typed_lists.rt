@@ -90,9 +90,7 @@ fn first_double_of_group(
     names: &[Name],
 ) -> Result<Option<Offence>, NoMemory>
     ensures offence { IfOk result (λ o. o ≡ least (doubles seen.old names.now)) }
-    ensures names {
-      OnOk result (seen.new ≡ with_new seen.old (map (λ n. n.bytes) names.now))
-    }
+    ensures names { OnOk result (seen.new ≡ with_new seen.old (map (λ n. n.bytes) names.now)) }
 {
     let mut found = None;
     for name in names {
@@ -109,9 +107,7 @@ pub(crate) fn first_double(
     groups: &[Group],
 ) -> Result<Option<Offence>, NoMemory>
     ensures offence { IfOk result (λ o. o ≡ least (doubles seen.old (names_of groups.now))) }
-    ensures names {
-      OnOk result (seen.new ≡ with_new seen.old (map (λ n. n.bytes) (names_of groups.now)))
-    }
+    ensures names { OnOk result (seen.new ≡ with_new seen.old (map (λ n. n.bytes) (names_of groups.now))) }
 {
     let mut found = None;
     for group in groups {
