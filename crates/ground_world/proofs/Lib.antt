@@ -1,0 +1,9 @@
+pub mod Walks
+pub mod Digits
+pub mod Groups
+pub mod Steps
+pub mod Choices
+pub mod PartSteps
+pub mod Weights
+pub mod Definedness
+pub mod Nested

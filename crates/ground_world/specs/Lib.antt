@@ -1,0 +1,11 @@
+pub mod World
+pub mod Bindings
+pub mod Changes
+pub mod FirstState
+pub mod Expressions
+pub mod Conditions
+pub mod Leaves
+pub mod Counts
+pub mod Shown
+pub mod Exact
+pub mod Laws

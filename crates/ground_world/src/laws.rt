@@ -1,0 +1,13 @@
+//! Laws of the definitions: each function does nothing, and its contract is the law.
+
+ghost use Rattle.ground_world.specs.Laws.{ChoicesByNumber, FilterIsNested};
+
+/// Bindings can be counted through: each has its number.
+pub fn choices_by_number()
+    ensures { ChoicesByNumber }
+{}
+
+/// Bindings that pass a test can be found in nested loops, one for each variable.
+pub fn filter_is_nested()
+    ensures { FilterIsNested }
+{}

@@ -1,0 +1,9 @@
+pub mod Walks
+pub mod ExampleBindings
+pub mod ExampleFacts
+pub mod ExampleComparisons
+pub mod ExampleValues
+pub mod ExampleFaults
+pub mod ExampleLimits
+pub mod ExampleActions
+pub mod ExampleTerms

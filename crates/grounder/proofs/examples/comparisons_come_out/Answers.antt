@@ -1,0 +1,5 @@
+use Rattle.grounder.proofs.ExampleComparisons.{comparisons_come_out as come_out}
+use Rattle.grounder.proofs.examples.comparisons_come_out.Goals as goal
+
+pub returns : goal.returns
+returns c = come_out

@@ -1,0 +1,13 @@
+pub mod Instances
+pub mod Terms
+pub mod Task
+pub mod Answer
+pub mod ExampleWords
+pub mod ExampleBindings
+pub mod ExampleFacts
+pub mod ExampleComparisons
+pub mod ExampleValues
+pub mod ExampleFaults
+pub mod ExampleLimits
+pub mod ExampleActions
+pub mod ExampleTerms

@@ -1,0 +1,7 @@
+//! Grounding: from a domain and a problem to the ground task, by enumeration of bindings.
+#![tactic(auto)]
+
+pub mod examples;
+mod faults;
+
+pub use faults::{GroundFault, LimitName};
