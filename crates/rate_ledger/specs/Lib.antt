@@ -1,0 +1,5 @@
+pub mod Carrying
+pub mod Entries
+pub mod Laws
+pub mod Reckoned
+pub mod Sums
