@@ -1,0 +1,9 @@
+pub mod Meeting
+pub mod Watching
+pub mod Adding
+pub mod Latest
+pub mod PieceValues
+pub mod Counting
+pub mod Going
+pub mod Holding
+pub mod Example
