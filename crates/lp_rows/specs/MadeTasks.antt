@@ -26,8 +26,15 @@ task_one = record {
   facts = (record { name = []; args = []; holds = false } ∷ []);
   fluents = (record { name = []; args = []; value = (plus 0 1) }
       ∷ record { name = []; args = []; value = (plus 4 1) } ∷ []);
-  actions = (record { name = []; args = []; start = 0; end = (Some 1); bounds = (record { at_least = true; at_end = false; form = (form (plus 3 1) []) }
-      ∷ record { at_least = false; at_end = false; form = (form (plus 3 1) []) } ∷ []); over_all = (record { literals = []; comparisons = ((form (plus 4 1) ((0, (plus 2 1)) ∷ (1, (minus 2 1)) ∷ [])) ∷ []) }) } ∷ []);
+  actions = (record {
+    name = [];
+    args = [];
+    start = 0;
+    end = (Some 1);
+    bounds = (record { at_least = true; at_end = false; form = (form (plus 3 1) []) }
+        ∷ record { at_least = false; at_end = false; form = (form (plus 3 1) []) } ∷ []);
+    over_all = (record { literals = []; comparisons = ((form (plus 4 1) ((0, (plus 2 1)) ∷ (1, (minus 2 1)) ∷ [])) ∷ []) });
+  } ∷ []);
   snaps = (record { kind = Start; action = (Some 0); condition = (record { literals = []; comparisons = [] }); effect = (record { adds = []; deletes = (0 ∷ []); assigns = []; increases = ((1, record { form = (form (plus 1 1) []); duration = (plus 0 1) }) ∷ []) }); rates = ((0, (minus 1 1)) ∷ (1, (minus 1 1)) ∷ []) }
       ∷ record { kind = End; action = (Some 0); condition = (record { literals = []; comparisons = [] }); effect = (record { adds = []; deletes = (0 ∷ []); assigns = []; increases = ((1, record { form = (form (minus 1 1) []); duration = (plus 0 1) }) ∷ []) }); rates = [] } ∷ []);
   timed = [];
@@ -46,8 +53,15 @@ task_two = record {
       ∷ record { name = []; args = []; value = (plus 1 1) } ∷ []);
   actions = (record { name = []; args = []; start = 0; end = (Some 1); bounds = (record { at_least = false; at_end = false; form = (form (plus 3 1) []) } ∷ []); over_all = (record { literals = (record { fact = 0; holds = false } ∷ []); comparisons = ((form (plus 4 1) ((0, (minus 1 1)) ∷ (1, (plus 1 1)) ∷ [])) ∷ []) }) }
       ∷ record { name = []; args = []; start = 2; end = None; bounds = []; over_all = (record { literals = []; comparisons = [] }) }
-      ∷ record { name = []; args = []; start = 3; end = (Some 4); bounds = (record { at_least = true; at_end = false; form = (form (plus 2 1) []) }
-      ∷ record { at_least = false; at_end = false; form = (form (plus 2 1) []) } ∷ []); over_all = (record { literals = []; comparisons = [] }) } ∷ []);
+      ∷ record {
+        name = [];
+        args = [];
+        start = 3;
+        end = (Some 4);
+        bounds = (record { at_least = true; at_end = false; form = (form (plus 2 1) []) }
+            ∷ record { at_least = false; at_end = false; form = (form (plus 2 1) []) } ∷ []);
+        over_all = (record { literals = []; comparisons = [] });
+      } ∷ []);
   snaps = (record { kind = Start; action = (Some 0); condition = (record { literals = []; comparisons = ((form (plus 2 1) ((0, (plus 2 1)) ∷ (1, (plus 1 1)) ∷ [])) ∷ []) }); effect = (record { adds = []; deletes = []; assigns = []; increases = ((0, record { form = (form (plus 2 1) []); duration = (plus 0 1) }) ∷ (1, record { form = (form (minus 1 1) []); duration = (plus 0 1) }) ∷ []) }); rates = [] }
       ∷ record { kind = End; action = (Some 0); condition = (record { literals = []; comparisons = [] }); effect = (record { adds = (0 ∷ []); deletes = []; assigns = ((1, record { form = (form (plus 2 1) ((1, (minus 1 1)) ∷ [])); duration = (minus 1 1) }) ∷ []); increases = [] }); rates = [] }
       ∷ record { kind = Instant; action = (Some 1); condition = (record { literals = []; comparisons = [] }); effect = (record { adds = []; deletes = (0 ∷ []); assigns = ((1, record { form = (form (minus 2 1) []); duration = (plus 0 1) }) ∷ []); increases = [] }); rates = [] }
@@ -68,10 +82,20 @@ task_three = record {
   facts = (record { name = []; args = []; holds = false } ∷ []);
   fluents = (record { name = []; args = []; value = (plus 1 1) }
       ∷ record { name = []; args = []; value = (plus 3 1) } ∷ []);
-  actions = (record { name = []; args = []; start = 0; end = (Some 1); bounds = (record { at_least = false; at_end = false; form = (form (plus 3 1) []) }
-      ∷ record { at_least = true; at_end = true; form = (form (plus 1 1) ((0, (plus 2 1)) ∷ (1, (plus 1 1)) ∷ [])) }
-      ∷ record { at_least = false; at_end = true; form = (form (plus 1 1) ((1, (plus 2 1)) ∷ [])) } ∷ []); over_all = (record { literals = (record { fact = 0; holds = false }
-      ∷ record { fact = 0; holds = true } ∷ []); comparisons = [] }) }
+  actions = (record {
+    name = [];
+    args = [];
+    start = 0;
+    end = (Some 1);
+    bounds = (record { at_least = false; at_end = false; form = (form (plus 3 1) []) }
+        ∷ record { at_least = true; at_end = true; form = (form (plus 1 1) ((0, (plus 2 1)) ∷ (1, (plus 1 1)) ∷ [])) }
+        ∷ record { at_least = false; at_end = true; form = (form (plus 1 1) ((1, (plus 2 1)) ∷ [])) } ∷ []);
+    over_all = (record {
+      literals = (record { fact = 0; holds = false }
+          ∷ record { fact = 0; holds = true } ∷ []);
+      comparisons = [];
+    });
+  }
       ∷ record { name = []; args = []; start = 2; end = None; bounds = []; over_all = (record { literals = []; comparisons = [] }) }
       ∷ record { name = []; args = []; start = 3; end = None; bounds = []; over_all = (record { literals = []; comparisons = [] }) } ∷ []);
   snaps = (record { kind = Start; action = (Some 0); condition = (record { literals = []; comparisons = [] }); effect = (record { adds = []; deletes = []; assigns = []; increases = [] }); rates = ((0, (minus 1 1)) ∷ []) }
@@ -111,9 +135,16 @@ task_five = record {
       ∷ record { name = []; args = []; holds = false }
       ∷ record { name = []; args = []; holds = true } ∷ []);
   fluents = (record { name = []; args = []; value = (plus 3 1) } ∷ []);
-  actions = (record { name = []; args = []; start = 0; end = (Some 1); bounds = (record { at_least = false; at_end = false; form = (form (plus 4 1) []) }
-      ∷ record { at_least = true; at_end = true; form = (form (plus 1 1) ((0, (minus 1 1)) ∷ [])) }
-      ∷ record { at_least = false; at_end = true; form = (form (plus 1 1) ((0, (plus 1 1)) ∷ [])) } ∷ []); over_all = (record { literals = (record { fact = 2; holds = true } ∷ []); comparisons = [] }) } ∷ []);
+  actions = (record {
+    name = [];
+    args = [];
+    start = 0;
+    end = (Some 1);
+    bounds = (record { at_least = false; at_end = false; form = (form (plus 4 1) []) }
+        ∷ record { at_least = true; at_end = true; form = (form (plus 1 1) ((0, (minus 1 1)) ∷ [])) }
+        ∷ record { at_least = false; at_end = true; form = (form (plus 1 1) ((0, (plus 1 1)) ∷ [])) } ∷ []);
+    over_all = (record { literals = (record { fact = 2; holds = true } ∷ []); comparisons = [] });
+  } ∷ []);
   snaps = (record { kind = Start; action = (Some 0); condition = (record { literals = []; comparisons = ((form (plus 0 1) ((0, (minus 2 1)) ∷ [])) ∷ []) }); effect = (record { adds = []; deletes = []; assigns = []; increases = ((0, record { form = (form (minus 1 1) []); duration = (plus 0 1) }) ∷ []) }); rates = [] }
       ∷ record { kind = End; action = (Some 0); condition = (record { literals = []; comparisons = [] }); effect = (record { adds = []; deletes = (2 ∷ []); assigns = []; increases = ((0, record { form = (form (plus 1 1) []); duration = (plus 0 1) }) ∷ []) }); rates = [] } ∷ []);
   timed = [];
@@ -132,8 +163,15 @@ task_six = record {
   fluents = (record { name = []; args = []; value = (plus 1 1) }
       ∷ record { name = []; args = []; value = (plus 3 1) }
       ∷ record { name = []; args = []; value = (plus 1 1) } ∷ []);
-  actions = (record { name = []; args = []; start = 0; end = (Some 1); bounds = (record { at_least = false; at_end = false; form = (form (plus 1 1) []) }
-      ∷ record { at_least = true; at_end = false; form = (form (plus 1 1) ((1, (plus 2 1)) ∷ [])) } ∷ []); over_all = (record { literals = []; comparisons = ((form (plus 0 1) ((2, (minus 2 1)) ∷ [])) ∷ []) }) }
+  actions = (record {
+    name = [];
+    args = [];
+    start = 0;
+    end = (Some 1);
+    bounds = (record { at_least = false; at_end = false; form = (form (plus 1 1) []) }
+        ∷ record { at_least = true; at_end = false; form = (form (plus 1 1) ((1, (plus 2 1)) ∷ [])) } ∷ []);
+    over_all = (record { literals = []; comparisons = ((form (plus 0 1) ((2, (minus 2 1)) ∷ [])) ∷ []) });
+  }
       ∷ record { name = []; args = []; start = 2; end = (Some 3); bounds = []; over_all = (record { literals = []; comparisons = ((form (plus 1 1) ((2, (plus 1 1)) ∷ [])) ∷ []) }) } ∷ []);
   snaps = (record { kind = Start; action = (Some 0); condition = (record { literals = []; comparisons = [] }); effect = (record { adds = (0 ∷ []); deletes = []; assigns = []; increases = [] }); rates = ((2, (minus 2 1)) ∷ []) }
       ∷ record { kind = End; action = (Some 0); condition = (record { literals = []; comparisons = [] }); effect = (record { adds = []; deletes = []; assigns = []; increases = [] }); rates = [] }
