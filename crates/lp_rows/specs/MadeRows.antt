@@ -1,4 +1,4 @@
--- Private: the rows of orderings of the made tasks, as an independent program makes them.
+-- Believed: the rows of orderings of the made tasks, as an independent program makes them.
 use Rattle.std.specs.Prelude.{◌≡◌, true, false, ◌&&◌, [], ◌∷◌, Some}
 use Rattle.rational.specs.Rational.{ℚ}
 use Rattle.exact_lin.specs.Forms.{Terms}

@@ -1,4 +1,4 @@
--- Private: six small tasks that were made at random, for the rows that an independent program makes of them.
+-- Believed: six small tasks that were made at random, for the rows that an independent program makes of them.
 use Rattle.std.specs.Prelude.{ℕ, pos, ◌-ℤ◌, true, false, [], ◌∷◌, Some, None}
 use Rattle.rational.specs.Rational.{ℚ, ratio}
 use Rattle.exact_lin.specs.Forms.{LinearForm, Terms}
