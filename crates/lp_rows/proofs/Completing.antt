@@ -1,4 +1,5 @@
--- From the answer of the branch tree to the headline: where the undecided terms of a point are free, its cost is the cost of its times, and where a tree proves that cost, no other times cost less.
+-- From the answer of the branch tree to the headline: where the undecided terms of a point are free, its cost is the
+-- cost of its times, and where a tree proves that cost, no other times cost less.
 use Rattle.std.proofs.Common.{◌≡◌, ℕ, zero, suc, ◌<◌, ◌≤◌, refl, sym, ap, ◌∙◌, subst, Option, Some, None, List, length, arith, ◌⊎◌, ⊎_elim}
 use Rattle.std.proofs.lemmas.List.{get_or-set_same, get_or-set_other}
 use Rattle.rational.specs.Rational.{ℚ, ◌+ℚ◌, ◌≤ℚ◌}

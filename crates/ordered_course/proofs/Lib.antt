@@ -1,0 +1,17 @@
+pub mod Closing
+pub mod Cut
+pub mod InOrder
+pub mod Lasting
+pub mod Lines
+pub mod Linked
+pub mod Listed
+pub mod Moments
+pub mod Owned
+pub mod PlanRates
+pub mod Splitting
+pub mod States
+pub mod Stories
+pub mod Telling
+pub mod TimedSteps
+pub mod TwoWalks
+pub mod Watching
