@@ -56,7 +56,7 @@ plan_listed-is task have (p ∷ ps) started = go (snap_of task p.0).kind (snap_o
 
     go : (k : SnapKind) (o : Option ℕ) → (o ≡ None → k ≡ Timed) → plan_listed task (started_on (snap_of task p.0).kind (snap_of task p.0).action p.1 started) ps ≡ filter (λ s. not (of_moment task s)) rest
         → listed task k o started p.0 p.1 ps ++ plan_listed task (started_on (snap_of task p.0).kind (snap_of task p.0).action p.1 started) ps
-            ≡ cond (not (is_timed k)) (record { time = p.1; snap = p.0; duration = duration_listed task k o started p.1 ps } ∷ filter (λ s. not (of_moment task s)) rest) (filter (λ s. not (of_moment task s)) rest)
+        ≡ cond (not (is_timed k)) (record { time = p.1; snap = p.0; duration = duration_listed task k o started p.1 ps } ∷ filter (λ s. not (of_moment task s)) rest) (filter (λ s. not (of_moment task s)) rest)
     go Start (Some a) f e = ap (λ xs. record { time = p.1; snap = p.0; duration = duration_listed task Start (Some a) started p.1 ps } ∷ xs) e
     go End (Some a) f e = ap (λ xs. record { time = p.1; snap = p.0; duration = duration_listed task End (Some a) started p.1 ps } ∷ xs) e
     go Instant (Some a) f e = ap (λ xs. record { time = p.1; snap = p.0; duration = zeroℚ } ∷ xs) e

@@ -1,4 +1,4 @@
--- Believed: what is wrong with the names, or with the types of terms, of a domain, and of a problem of a domain.
+-- Private: what is wrong with the names, or with the types of terms, of a domain, and of a problem of a domain.
 use Rattle.std.specs.Prelude.{ℕ, if◌then◌else◌, List, [], ◌∷◌, ◌++◌, map, Option, Some, None, is_some}
 use Rattle.std.specs.List.{flat_map}
 use Rattle.std.specs.Option.{option_map_or}

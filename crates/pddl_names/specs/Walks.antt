@@ -1,4 +1,4 @@
--- Believed: what is wrong in expressions, conditions, formulas, constraints, effects and goals.
+-- Private: what is wrong in expressions, conditions, formulas, constraints, effects and goals.
 use Rattle.std.specs.Prelude.{ℕ, if◌then◌else◌, List, [], ◌∷◌, ◌++◌}
 use Rattle.std.specs.List.{flat_map}
 use Rattle.pddl_terms.specs.declared.trees.Name.{Name}
