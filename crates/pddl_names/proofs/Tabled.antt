@@ -31,3 +31,22 @@ module _ {V : Type 0} where
 
   pub shown-append : (es : List (Vec ℕ Global × V)) (k : Vec ℕ Global) (v : V) → shown (es ++ ((k, v) ∷ [])) ≡ shown es ++ ((k.items, v) ∷ [])
   shown-append es k v = map-append (λ e. (e.0.items, e.1)) es ((k, v) ∷ [])
+
+  there_by : (xs ys : List (Text × V)) (n : Text) (v x : V) (b : Bool) → (Some v ≡ value_of xs n → Some v ≡ value_of (xs ++ ys) n)
+      → Some v ≡ (if b then Some x else value_of xs n) → Some v ≡ (if b then Some x else value_of (xs ++ ys) n)
+  there_by xs ys n v x true later h = h
+  there_by xs ys n v x false later h = later h
+
+  -- what the first of two lists declares hides what the second does
+  pub value_of-there : (xs ys : List (Text × V)) (n : Text) (v : V) → Some v ≡ value_of xs n → Some v ≡ value_of (xs ++ ys) n
+  value_of-there [] ys n v h = absurd (cc)
+  value_of-there (x ∷ xs) ys n v h = there_by xs ys n v x.1 (bytes_eq n x.0) (value_of-there xs ys n v) h
+
+  absent_by : (xs ys : List (Text × V)) (n : Text) (x : V) (b : Bool) → (◌≡◌ {A = Option V} None (value_of xs n) → value_of ys n ≡ value_of (xs ++ ys) n)
+      → ◌≡◌ {A = Option V} None (if b then Some x else value_of xs n) → value_of ys n ≡ (if b then Some x else value_of (xs ++ ys) n)
+  absent_by xs ys n x true later h = absurd (cc)
+  absent_by xs ys n x false later h = later h
+
+  pub value_of-absent : (xs ys : List (Text × V)) (n : Text) → ◌≡◌ {A = Option V} None (value_of xs n) → value_of ys n ≡ value_of (xs ++ ys) n
+  value_of-absent [] ys n h = refl
+  value_of-absent (x ∷ xs) ys n h = absent_by xs ys n x.1 (bytes_eq n x.0) (value_of-absent xs ys n) h

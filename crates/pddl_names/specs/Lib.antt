@@ -1,3 +1,8 @@
+pub mod Calls
 pub mod Declarations
 pub mod Equalities
 pub mod Fitting
+pub mod Offences
+pub mod Scopes
+pub mod Walks
+pub mod Files

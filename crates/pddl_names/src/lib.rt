@@ -2,10 +2,25 @@
 //! name that isn't declared or is declared twice, the first term of a wrong type.
 #![tactic(auto)]
 
+mod calls;
+mod conditions;
+mod constraints;
+mod declarations;
+mod effects;
 mod equality;
+mod expressions;
+mod fitting;
+mod formulas;
+mod goals;
 mod names;
+mod offences;
+mod scope;
+mod sides;
 mod tables;
+mod typed_lists;
 
 pub use equality::is_equality;
+pub use fitting::fits;
 pub use names::Names;
+pub use offences::{Offence, Phase};
 pub use tables::Table;

@@ -1,6 +1,6 @@
 //! What is declared of names, found by their bytes in constant time.
 
-ghost use Rattle.std.specs.Prelude.{◌≡◌, [], is_some, OnOk};
+ghost use Rattle.std.specs.Prelude.{◌≡◌, [], OnOk, length};
 ghost use Rattle.std.specs.Option.{option_copied};
 ghost use Rattle.pddl_names.specs.Declarations.{value_of, with_first};
 
@@ -42,6 +42,13 @@ impl<V: Drop> Table<V> {
         }
         self.entries.insert(Vec::from_slice(alloc, name)?, value)?;
         Ok(())
+    }
+
+    /// How many names there are.
+    pub fn len(&self) -> usize
+        ensures { result ≡ length self.now }
+    {
+        self.entries.len()
     }
 
     /// The value of a name.

@@ -1,0 +1,12 @@
+use Rattle.std.proofs.Common.{◌≡◌, take}
+use Rattle.std.specs.List.{flat_map}
+use Rattle.pddl_names.specs.Offences.{least}
+use Rattle.pddl_names.specs.Scopes.{variables_of}
+use Rattle.pddl_names.specs.Walks.{timed_condition_offences}
+use Rattle.pddl_names.proofs.conditions.+first_in_timed_condition.Given as goal
+
+abbrev pub decreases-first_in_timed_condition : goal.decreases-first_in_timed_condition
+decreases-first_in_timed_condition l = goal.size-first_in_timed_condition l
+
+abbrev pub invariant-loop-part : goal.invariant-loop-part
+invariant-loop-part l = l.found ≡ least (flat_map (timed_condition_offences l.phase l.tables (variables_of l.scope)) (take l.part-index l.part-items))

@@ -1,0 +1,12 @@
+use Rattle.std.proofs.Common.{◌≡◌, take}
+use Rattle.std.specs.List.{flat_map}
+use Rattle.pddl_names.specs.Offences.{least}
+use Rattle.pddl_names.specs.Scopes.{variables_of}
+use Rattle.pddl_names.specs.Walks.{duration_offences}
+use Rattle.pddl_names.proofs.expressions.+first_in_duration.Given as goal
+
+abbrev pub decreases-first_in_duration : goal.decreases-first_in_duration
+decreases-first_in_duration l = goal.size-first_in_duration l
+
+abbrev pub invariant-loop-part : goal.invariant-loop-part
+invariant-loop-part l = l.found ≡ least (flat_map (duration_offences l.phase l.tables (variables_of l.scope)) (take l.part-index l.part-items))
