@@ -14,7 +14,7 @@ use Rattle.pddl_terms.specs.declared.files.TimedLiteral.{TimedLiteral}
 use Rattle.pddl_terms.specs.declared.trees.Atom.{Atom}
 use Rattle.pddl_terms.specs.declared.trees.Call.{Call}
 use Rattle.pddl_terms.specs.declared.trees.Call.TheVariants as call
-use Rattle.pddl_forms.specs.declared.offences.Offence.{Offence}
+use Rattle.pddl_names.specs.declared.offences.Offence.{Offence}
 use Rattle.pddl_forms.specs.Offences.{unless, least_with}
 use Rattle.pddl_forms.specs.TimedLiterals.{same_words, fact_words, same_number, same_fact, differ, clashes_behind}
 use Rattle.pddl_forms.specs.Keys.{key, keys_by, keys_of, is_seen_by, is_seen, clashes_seen}

@@ -17,7 +17,7 @@ use Rattle.pddl_terms.specs.declared.trees.Group.{Group}
 use Rattle.pddl_terms.specs.declared.trees.Side.{Side}
 use Rattle.pddl_terms.specs.declared.faults.Kind.TheVariants as kind
 use Rattle.pddl_forms.specs.declared.functions.Functions.{Functions}
-use Rattle.pddl_forms.specs.declared.offences.Offence.{Offence}
+use Rattle.pddl_names.specs.declared.offences.Offence.{Offence}
 use Rattle.pddl_forms.specs.Offences.{offence}
 use Rattle.pddl_forms.specs.TypedLists.{typed_offences}
 use Rattle.pddl_forms.specs.Expressions.{expression_offences}

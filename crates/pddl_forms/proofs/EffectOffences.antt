@@ -15,7 +15,7 @@ use Rattle.pddl_terms.specs.declared.trees.RateTree.{RateTree}
 use Rattle.pddl_terms.specs.declared.trees.Trend.{Trend}
 use Rattle.pddl_terms.specs.declared.faults.Kind.TheVariants as kind
 use Rattle.pddl_forms.specs.declared.functions.Functions.{Functions}
-use Rattle.pddl_forms.specs.declared.offences.Offence.{Offence}
+use Rattle.pddl_names.specs.declared.offences.Offence.{Offence}
 use Rattle.pddl_forms.specs.Offences.{offence}
 use Rattle.pddl_forms.specs.Expressions.{expression_offences}
 use Rattle.pddl_forms.specs.Effects.{call_offences, rate_offences, effect_layer, effect_offences, timed_effect_layer, timed_effect_offences}

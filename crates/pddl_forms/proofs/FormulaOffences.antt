@@ -14,7 +14,7 @@ use Rattle.pddl_terms.specs.declared.trees.Side.{Side}
 use Rattle.pddl_terms.specs.declared.trees.Trajectory.{Trajectory}
 use Rattle.pddl_terms.specs.declared.faults.Kind.TheVariants as kind
 use Rattle.pddl_forms.specs.declared.functions.Functions.{Functions}
-use Rattle.pddl_forms.specs.declared.offences.Offence.{Offence}
+use Rattle.pddl_names.specs.declared.offences.Offence.{Offence}
 use Rattle.pddl_names.specs.Equalities.{is_equality}
 use Rattle.pddl_forms.specs.declared.formulas.Around.{Around}
 use Rattle.pddl_forms.specs.declared.formulas.Around.TheVariants as around

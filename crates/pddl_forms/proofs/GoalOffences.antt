@@ -13,7 +13,7 @@ use Rattle.pddl_terms.specs.declared.trees.Group.{Group}
 use Rattle.pddl_terms.specs.declared.trees.Name.{Name}
 use Rattle.pddl_terms.specs.declared.trees.Side.{Side}
 use Rattle.pddl_forms.specs.declared.functions.Functions.{Functions}
-use Rattle.pddl_forms.specs.declared.offences.Offence.{Offence}
+use Rattle.pddl_names.specs.declared.offences.Offence.{Offence}
 use Rattle.pddl_names.specs.Equalities.{is_equality}
 use Rattle.pddl_forms.specs.declared.formulas.Around.TheVariants as around
 use Rattle.pddl_forms.specs.TypedLists.{typed_offences}

@@ -1,9 +1,11 @@
 -- The least of several offences, list by list.
-use Rattle.std.proofs.Common.{◌≡◌, refl, sym, ap, ◌∙◌, ℕ, ◌+◌, ◌<◌, ◌≤◌, List, [], ◌∷◌, ◌++◌, map, length, take, get_or, Option, append-nil}
+use Rattle.std.proofs.Common.{◌≡◌, refl, sym, ap, ◌∙◌, ℕ, ◌+◌, ◌<◌, ◌≤◌, List, [], ◌∷◌, ◌++◌, map, length, take, get_or, Option, Some, None, append-nil}
 use Rattle.std.specs.List.{flat_map}
 use Rattle.std.proofs.lemmas.List.{take_more, take_all}
 use Rattle.std.proofs.lemmas.List.Concat.{flat_map-append}
-use Rattle.pddl_forms.specs.declared.offences.Offence.{Offence}
+use Rattle.pddl_names.specs.declared.offences.Offence.{Offence}
+use Rattle.pddl_names.specs.Offences.{earlier, least}
+use Rattle.pddl_names.proofs.Least.{earlier-none, earlier-assoc}
 use Rattle.pddl_forms.specs.Offences.{lesser, least_with}
 
 pub least_with-none : (found : Option Offence) → least_with found [] ≡ found
@@ -18,6 +20,15 @@ pub least_with-append : (found : Option Offence) (xs ys : List Offence) → leas
 unfolding least_with
 least_with-append found [] ys = refl
 least_with-append found (x ∷ xs) ys = least_with-append (lesser found x) xs ys
+
+-- the least of these, and of what was found before them
+least_with-least : (found : Option Offence) (os : List Offence) → least_with found os ≡ earlier found (least os)
+unfolding least_with lesser
+least_with-least found [] = sym (earlier-none found)
+least_with-least found (o ∷ os) = least_with-least (lesser found o) os ∙ earlier-assoc found (Some o) (least os)
+
+pub least_with-all : (os : List Offence) → least_with None os ≡ least os
+least_with-all os = least_with-least None os
 
 pub ruleset least_of = (least_with-none, least_with-one, least_with-append)
 

@@ -10,3 +10,4 @@ pub mod NamesIn
 pub mod KeysApart
 pub mod Clashes
 pub mod FirstLeast
+pub mod Accepting

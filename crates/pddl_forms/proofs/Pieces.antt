@@ -4,7 +4,7 @@ use Rattle.rational.specs.Rational.{ℚ}
 use Rattle.pddl_terms.specs.declared.faults.Kind.TheVariants as kind
 use Rattle.pddl_terms.specs.declared.files.PieceDef.{PieceDef}
 use Rattle.pddl_terms.specs.declared.files.PieceDef.TheVariants as piece
-use Rattle.pddl_forms.specs.declared.offences.Offence.{Offence}
+use Rattle.pddl_names.specs.declared.offences.Offence.{Offence}
 use Rattle.pddl_forms.specs.Offences.{offence, unless, lesser, least_with}
 use Rattle.pddl_forms.specs.TimeCosts.{goes_on, pieces_from}
 use Rattle.pddl_forms.proofs.Least.{least_of}

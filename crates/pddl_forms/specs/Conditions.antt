@@ -13,7 +13,7 @@ use Rattle.pddl_terms.specs.declared.trees.Side as sides
 use Rattle.pddl_terms.specs.declared.trees.TimedCond.{TimedCond, fold-TimedCond}
 use Rattle.pddl_terms.specs.declared.trees.TimedCond.TheOpen.{TimedCond-F}
 use Rattle.pddl_forms.specs.declared.functions.Functions.{Functions}
-use Rattle.pddl_forms.specs.declared.offences.Offence.{Offence}
+use Rattle.pddl_names.specs.declared.offences.Offence.{Offence}
 use Rattle.pddl_forms.specs.Offences.{offence}
 use Rattle.pddl_forms.specs.TypedLists.{typed_offences}
 use Rattle.pddl_forms.specs.Expressions.{expression_offences, side_offences}

@@ -11,7 +11,7 @@ use Rattle.pddl_terms.specs.declared.trees.RateTree.TheVariants as rate
 use Rattle.pddl_terms.specs.declared.trees.TimedEff.{TimedEff, fold-TimedEff}
 use Rattle.pddl_terms.specs.declared.trees.TimedEff.TheOpen.{TimedEff-F}
 use Rattle.pddl_forms.specs.declared.functions.Functions.{Functions}
-use Rattle.pddl_forms.specs.declared.offences.Offence.{Offence}
+use Rattle.pddl_names.specs.declared.offences.Offence.{Offence}
 use Rattle.pddl_forms.specs.Offences.{offence, unless}
 use Rattle.pddl_forms.specs.Expressions.{is_constant, expression_offences}
 

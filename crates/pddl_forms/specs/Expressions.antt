@@ -9,7 +9,7 @@ use Rattle.pddl_terms.specs.declared.trees.ExprTree.TheOpen.{ExprTree-F}
 use Rattle.pddl_terms.specs.declared.trees.Side as sides
 use Rattle.pddl_terms.specs.declared.trees.Side.TheVariants as side
 use Rattle.pddl_forms.specs.declared.functions.Functions.{Functions}
-use Rattle.pddl_forms.specs.declared.offences.Offence.{Offence}
+use Rattle.pddl_names.specs.declared.offences.Offence.{Offence}
 use Rattle.pddl_forms.specs.Offences.{offence, unless}
 use Rattle.pddl_forms.specs.Functions.{is_static}
 

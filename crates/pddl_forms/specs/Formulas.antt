@@ -13,7 +13,7 @@ use Rattle.pddl_terms.specs.declared.trees.Trajectory.TheVariants as trajectory
 use Rattle.pddl_forms.specs.declared.formulas.Around.{Around}
 use Rattle.pddl_forms.specs.declared.formulas.Around.TheVariants as around
 use Rattle.pddl_forms.specs.declared.functions.Functions.{Functions}
-use Rattle.pddl_forms.specs.declared.offences.Offence.{Offence}
+use Rattle.pddl_names.specs.declared.offences.Offence.{Offence}
 use Rattle.pddl_forms.specs.Offences.{offence}
 use Rattle.pddl_forms.specs.TypedLists.{typed_offences}
 use Rattle.pddl_forms.specs.Conditions.{sides_offences}

@@ -8,7 +8,7 @@ use Rattle.pddl_terms.specs.declared.trees.SoftTree.{SoftTree, fold-SoftTree}
 use Rattle.pddl_terms.specs.declared.trees.SoftTree.TheOpen.{SoftTree-F}
 use Rattle.pddl_forms.specs.declared.formulas.Around.TheVariants as around
 use Rattle.pddl_forms.specs.declared.functions.Functions.{Functions}
-use Rattle.pddl_forms.specs.declared.offences.Offence.{Offence}
+use Rattle.pddl_names.specs.declared.offences.Offence.{Offence}
 use Rattle.pddl_forms.specs.TypedLists.{typed_offences}
 use Rattle.pddl_forms.specs.Conditions.{sides_offences, condition_offences}
 use Rattle.pddl_forms.specs.Formulas.{formula_in}

@@ -8,7 +8,7 @@ use Rattle.pddl_terms.specs.declared.files.TimedLiteral.{TimedLiteral}
 use Rattle.pddl_terms.specs.declared.trees.Atom.{Atom}
 use Rattle.pddl_terms.specs.declared.trees.Call.{Call}
 use Rattle.pddl_terms.specs.declared.trees.Call.TheVariants as call
-use Rattle.pddl_forms.specs.declared.offences.Offence.{Offence}
+use Rattle.pddl_names.specs.declared.offences.Offence.{Offence}
 use Rattle.pddl_forms.specs.Offences.{unless}
 use Rattle.pddl_forms.specs.TimedLiterals.{fact_words}
 

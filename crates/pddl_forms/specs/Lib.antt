@@ -13,3 +13,4 @@ pub mod Forms
 pub mod Limits
 pub mod Keys
 pub mod Laws
+pub mod Accepted

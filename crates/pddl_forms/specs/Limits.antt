@@ -15,9 +15,20 @@ use Rattle.pddl_terms.specs.declared.files.TimeCost.{TimeCost}
 use Rattle.pddl_terms.specs.declared.files.TimeCost.TheVariants as cost
 use Rattle.pddl_terms.specs.declared.trees.Group.{Group}
 use Rattle.pddl_terms.specs.declared.trees.Name.{Name}
-use Rattle.pddl_forms.specs.declared.offences.Offence.{Offence}
-use Rattle.pddl_forms.specs.declared.limits.TheConstants.{MOST_OBJECTS, MOST_PARAMETERS, MOST_PIECES}
+use Rattle.pddl_names.specs.declared.offences.Offence.{Offence}
 use Rattle.pddl_forms.specs.Offences.{offence}
+
+-- the most constants of a domain and objects of a problem, together
+abbrev pub objects_limit : ℕ
+objects_limit = 512
+
+-- the most parameters of an action or a predicate
+abbrev pub parameters_limit : ℕ
+parameters_limit = 12
+
+-- the most pieces of a time cost
+abbrev pub pieces_limit : ℕ
+pieces_limit = 16
 
 -- the names of a typed list, in the order of the text
 abbrev pub names_in : List Group → List Name
@@ -33,14 +44,14 @@ abbrev pub at_most : ℕ → List Group → List Offence
 at_most most groups = past (slice_get (names_in groups) most)
 
 abbrev pub predicate_limits : Declared → List Offence
-predicate_limits (declared.Named at n parameters) = at_most MOST_PARAMETERS parameters
+predicate_limits (declared.Named at n parameters) = at_most parameters_limit parameters
 predicate_limits (declared.LeftOut at) = []
 
 abbrev pub action_limits : ActionDef → List Offence
-action_limits a = at_most MOST_PARAMETERS a.parameters
+action_limits a = at_most parameters_limit a.parameters
 
 unfoldable pub domain_limits : Domain → List Offence
-domain_limits d = at_most MOST_OBJECTS d.constants ++ flat_map predicate_limits d.predicates ++ flat_map action_limits d.actions
+domain_limits d = at_most objects_limit d.constants ++ flat_map predicate_limits d.predicates ++ flat_map action_limits d.actions
 
 -- where a piece begins
 abbrev pub piece_place : PieceDef → ℕ
@@ -54,7 +65,7 @@ past_piece (Some p) = offence kind.Limit (piece_place p) ∷ []
 
 abbrev pub curve_limits : CostCurve → List Offence
 curve_limits (curve.Three soft hard top) = []
-curve_limits (curve.Pieces ps) = past_piece (slice_get ps MOST_PIECES)
+curve_limits (curve.Pieces ps) = past_piece (slice_get ps pieces_limit)
 
 abbrev pub time_cost_limits : TimeCost → List Offence
 time_cost_limits (cost.Named at n t c) = curve_limits c
@@ -62,4 +73,4 @@ time_cost_limits (cost.LeftOut at) = []
 
 -- The objects of a problem come behind the constants of its domain.
 unfoldable pub problem_limits : Domain → Problem → List Offence
-problem_limits d p = at_most (MOST_OBJECTS - length (names_in d.constants)) p.objects ++ flat_map time_cost_limits p.time_costs
+problem_limits d p = at_most (objects_limit - length (names_in d.constants)) p.objects ++ flat_map time_cost_limits p.time_costs

@@ -5,7 +5,7 @@ use lib.Chars.{codes}
 use Rattle.pddl_terms.specs.declared.faults.Kind.TheVariants as kind
 use Rattle.pddl_terms.specs.declared.trees.Name.{Name}
 use Rattle.pddl_terms.specs.Words.{same_word}
-use Rattle.pddl_forms.specs.declared.offences.Offence.{Offence}
+use Rattle.pddl_names.specs.declared.offences.Offence.{Offence}
 use Rattle.pddl_forms.specs.Offences.{unless}
 
 -- flags of conditions and effects

@@ -10,7 +10,7 @@ use Rattle.pddl_terms.specs.declared.files.PieceDef.TheVariants as piece
 use Rattle.pddl_terms.specs.declared.files.TimeCost.{TimeCost}
 use Rattle.pddl_terms.specs.declared.files.TimeCost.TheVariants as cost
 use Rattle.pddl_forms.specs.declared.functions.Functions.{Functions}
-use Rattle.pddl_forms.specs.declared.offences.Offence.{Offence}
+use Rattle.pddl_names.specs.declared.offences.Offence.{Offence}
 use Rattle.pddl_forms.specs.Offences.{offence, unless}
 use Rattle.pddl_forms.specs.Formulas.{formula_offences}
 

@@ -14,7 +14,7 @@ use Rattle.pddl_terms.specs.declared.trees.Call.{Call}
 use Rattle.pddl_terms.specs.declared.trees.Call.TheVariants as call
 use Rattle.pddl_terms.specs.declared.trees.Term.{Term}
 use Rattle.pddl_terms.specs.declared.trees.Term.TheVariants as term
-use Rattle.pddl_forms.specs.declared.offences.Offence.{Offence}
+use Rattle.pddl_names.specs.declared.offences.Offence.{Offence}
 use Rattle.pddl_forms.specs.Offences.{offence, unless}
 use Rattle.pddl_forms.specs.Effects.{call_offences}
 use Rattle.pddl_forms.specs.TimeCosts.{is_below}

@@ -7,7 +7,7 @@ use Rattle.pddl_terms.specs.declared.files.Declared.TheVariants as declared
 use Rattle.pddl_terms.specs.declared.trees.Group.{Group}
 use Rattle.pddl_terms.specs.declared.trees.TypeName.{TypeName}
 use Rattle.pddl_terms.specs.declared.trees.TypeName.TheVariants as type
-use Rattle.pddl_forms.specs.declared.offences.Offence.{Offence}
+use Rattle.pddl_names.specs.declared.offences.Offence.{Offence}
 use Rattle.pddl_forms.specs.Offences.{offence}
 
 -- A type is a name: `( either .. )` is left out.

@@ -6,9 +6,9 @@ ghost use Rattle.pddl_forms.specs.Conditions.{negated, strict, equal_offences, c
 
 use crate::expressions::{least_of_expression, least_of_sides};
 use crate::functions::Functions;
-use crate::offences::{Offence, met};
+use crate::offences::met;
 use crate::typed_lists::least_of_typed;
-use pddl_names::is_equality;
+use pddl_names::{Offence, is_equality};
 use pddl_terms::{Comparison, CondTree, DurTree, Kind, Side, TimedCond};
 
 #[tactic(auto, using(crate::proofs::Least::least_of))]

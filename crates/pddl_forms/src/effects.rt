@@ -6,7 +6,8 @@ ghost use Rattle.pddl_forms.specs.Effects.{call_offences, effect_offences, rate_
 
 use crate::expressions::{judge, least_of_expression, met_unless};
 use crate::functions::Functions;
-use crate::offences::{Offence, met};
+use crate::offences::met;
+use pddl_names::Offence;
 use pddl_terms::{Call, EffTree, Kind, RateTree, TimedEff};
 
 /// The least of what was found before and of a list that is left out in place of an atom or a fluent.

@@ -5,7 +5,8 @@ ghost use Rattle.pddl_forms.specs.Offences.{least_with, unless};
 ghost use Rattle.pddl_forms.specs.Expressions.{is_constant, expression_offences, side_offences};
 
 use crate::functions::{Functions, is_static};
-use crate::offences::{Offence, met};
+use crate::offences::met;
+use pddl_names::Offence;
 use pddl_terms::{ExprTree, Kind, Side};
 
 /// Whether an expression is a constant, and the least of what was found before it and in it.

@@ -1,11 +1,13 @@
 //! The forms of whole domains and problems.
 
-ghost use Rattle.std.specs.Prelude.{◌≡◌, ◌++◌, IfOk};
+ghost use Rattle.std.specs.Prelude.{◌≡◌, ◌++◌, None, IfOk};
 ghost use Rattle.std.specs.List.{flat_map};
-ghost use Rattle.pddl_forms.specs.Offences.{least_with, least};
+ghost use Rattle.pddl_forms.specs.Offences.{least_with};
+ghost use Rattle.pddl_names.specs.Offences.{least};
 ghost use Rattle.pddl_forms.specs.Conditions.{condition_offences, timed_condition_offences};
 ghost use Rattle.pddl_forms.specs.Effects.{effect_offences, timed_effect_offences};
 ghost use Rattle.pddl_forms.specs.Formulas.{constraint_offences};
+ghost use Rattle.pddl_forms.specs.Functions.{functions_of};
 ghost use Rattle.pddl_forms.specs.Requirements.{requirements_offences};
 ghost use Rattle.pddl_forms.specs.TimeCosts.{time_cost_offences};
 ghost use Rattle.pddl_forms.specs.TypedLists.{typed_offences};
@@ -17,12 +19,13 @@ use crate::expressions::least_of_expression;
 use crate::formulas::least_of_constraint;
 use crate::functions::{Functions, functions_of};
 use crate::goals::least_of_goal;
-use crate::offences::{Offence, met};
+use crate::offences::met;
 use crate::requirements::least_of_requirements;
 use crate::time_costs::least_of_time_cost;
 use crate::timed_literals::least_of_init;
 use crate::typed_lists::{least_of_all_declared, least_of_typed};
 use exact_lin::NoMemory;
+use pddl_names::Offence;
 use pddl_terms::{
     ActionBody, ActionDef, ConForm, CondTree, Domain, EffTree, Kind, Metric, Problem, TimeCost,
     TimedCond, TimedEff,
@@ -178,7 +181,7 @@ fn least_of_actions(
 
 #[tactic(auto, using(crate::proofs::Least::least_of))]
 fn least_of_declarations(domain: &Domain) -> Option<Offence>
-    ensures { result ≡ least (declarations_offences domain.now) }
+    ensures { result ≡ least_with None (declarations_offences domain.now) }
 {
     let found = least_of_requirements(domain.requirements.as_slice(), None);
     let found = least_of_typed(domain.types.as_slice(), found);
@@ -188,13 +191,19 @@ fn least_of_declarations(domain: &Domain) -> Option<Offence>
 }
 
 #[tactic(auto, using(crate::proofs::Least::least_of), unfolding(crate::specs::Forms::domain_forms_with))]
-fn least_of_domain(functions: &Functions, domain: &Domain) -> Option<Offence>
-    ensures { result ≡ least (domain_forms_with functions.now domain.now) }
+fn least_of_parts(functions: &Functions, domain: &Domain) -> Option<Offence>
+    ensures { result ≡ least_with None (domain_forms_with functions.now domain.now) }
 {
     let found = least_of_declarations(domain);
     let found = least_of_some_constraint(functions, &domain.constraints, found);
     let found = least_of_actions(functions, domain.actions.as_slice(), found);
     least_of_sections(domain.left_out.as_slice(), found)
+}
+
+fn least_of_domain(functions: &Functions, domain: &Domain) -> Option<Offence>
+    ensures { result ≡ least (domain_forms_with functions.now domain.now) }
+{
+    least_of_parts(functions, domain)
 }
 
 /// The least place at which something is wrong in the forms of a domain: a strict or negated comparison, an expression or
@@ -250,7 +259,7 @@ fn least_behind_facts(
 
 #[tactic(auto, using(crate::proofs::Least::least_of))]
 fn least_before_init(problem: &Problem) -> Option<Offence>
-    ensures { result ≡ least
+    ensures { result ≡ least_with None
         (requirements_offences problem.now.requirements ++ typed_offences problem.now.objects) }
 {
     let found = least_of_requirements(problem.requirements.as_slice(), None);
@@ -258,7 +267,7 @@ fn least_before_init(problem: &Problem) -> Option<Offence>
 }
 
 fn least_of_facts(alloc: Global, problem: &Problem) -> Result<Option<Offence>, NoMemory>
-    ensures { IfOk result (λ found. found ≡ least (facts_offences problem.now)) }
+    ensures { IfOk result (λ found. found ≡ least_with None (facts_offences problem.now)) }
 {
     let found = least_before_init(problem);
     let found = least_of_init(alloc, problem.init.as_slice(), found)?;
@@ -288,4 +297,24 @@ pub fn problem_form_offence(
     let functions = functions_of(alloc, domain)?;
     let found = least_of_problem(alloc, &functions, problem)?;
     Ok(found)
+}
+
+fn least_of_metric(functions: &Functions, metric: &Option<Metric>) -> Option<Offence>
+    ensures { result ≡ least (some_offences (metric_offences functions.now) metric.now) }
+{
+    least_of_some_metric(functions, metric, None)
+}
+
+/// The least place at which a metric of a problem of the domain isn't linear or holds a list that is left out. The signs
+/// of a metric's terms are asked only where there is no such place.
+pub fn metric_form_offence(
+    alloc: Global,
+    domain: &Domain,
+    metric: &Option<Metric>,
+) -> Result<Option<Offence>, NoMemory>
+    ensures { IfOk result (λ found.
+        found ≡ least (some_offences (metric_offences (functions_of domain.now)) metric.now)) }
+{
+    let functions = functions_of(alloc, domain)?;
+    Ok(least_of_metric(&functions, metric))
 }

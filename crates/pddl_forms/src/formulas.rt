@@ -6,9 +6,9 @@ ghost use Rattle.pddl_forms.specs.Formulas.{below_not, compared, formula_in, for
 
 use crate::expressions::least_of_sides;
 use crate::functions::Functions;
-use crate::offences::{Offence, met};
+use crate::offences::met;
 use crate::typed_lists::least_of_typed;
-use pddl_names::is_equality;
+use pddl_names::{Offence, is_equality};
 use pddl_terms::{ConForm, FactForm, Kind, Side, Trajectory};
 
 /// What a formula stands right in: a formula or constraint, a preference of a goal, or the `not` at a place which stands

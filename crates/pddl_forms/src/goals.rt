@@ -8,9 +8,8 @@ use crate::conditions::least_of_condition;
 use crate::expressions::least_of_sides;
 use crate::formulas::{Around, least_in_formula};
 use crate::functions::Functions;
-use crate::offences::Offence;
 use crate::typed_lists::least_of_typed;
-use pddl_names::is_equality;
+use pddl_names::{Offence, is_equality};
 use pddl_terms::{GoalTree, SoftTree};
 
 /// The least of what was found before and in what a preference asks.

@@ -1,12 +1,14 @@
 //! How much a domain and a problem of it may hold.
 
-ghost use Rattle.std.specs.Prelude.{◌≡◌, ◌-◌, length, slice_get};
+ghost use Rattle.std.specs.Prelude.{◌≡◌, ◌-◌, None, length, slice_get};
 ghost use Rattle.std.specs.List.{flat_map};
 ghost use Rattle.std.specs.Option.{option_copied};
-ghost use Rattle.pddl_forms.specs.Offences.{least_with, least};
-ghost use Rattle.pddl_forms.specs.Limits.{names_in, at_most, predicate_limits, action_limits, domain_limits, curve_limits, time_cost_limits, piece_place, past_piece, problem_limits};
+ghost use Rattle.pddl_forms.specs.Offences.{least_with};
+ghost use Rattle.pddl_names.specs.Offences.{least};
+ghost use Rattle.pddl_forms.specs.Limits.{names_in, at_most, predicate_limits, action_limits, domain_limits, curve_limits, time_cost_limits, piece_place, past_piece, pieces_limit, problem_limits};
 
-use crate::offences::{Offence, met};
+use crate::offences::met;
+use pddl_names::Offence;
 use pddl_terms::{
     ActionDef, CostCurve, Declared, Domain, Group, Kind, Name, PieceDef, Problem, TimeCost,
 };
@@ -101,15 +103,21 @@ fn least_of_actions(actions: &[ActionDef], found: Option<Offence>) -> Option<Off
     found
 }
 
-/// The least place at which a domain holds more than it may: a thirteenth parameter of a predicate or an action, or the
-/// 513th constant. `None` where it doesn't.
 #[tactic(auto, using(crate::proofs::Least::least_of), unfolding(crate::specs::Limits::domain_limits))]
-pub fn domain_limit_offence(domain: &Domain) -> Option<Offence>
-    ensures { result ≡ least (domain_limits domain.now) }
+fn least_of_domain(domain: &Domain) -> Option<Offence>
+    ensures { result ≡ least_with None (domain_limits domain.now) }
 {
     let found = least_past(MOST_OBJECTS, domain.constants.as_slice(), None);
     let found = least_of_predicates(domain.predicates.as_slice(), found);
     least_of_actions(domain.actions.as_slice(), found)
+}
+
+/// The least place at which a domain holds more than it may: a thirteenth parameter of a predicate or an action, or the
+/// 513th constant. `None` where it doesn't.
+pub fn domain_limit_offence(domain: &Domain) -> Option<Offence>
+    ensures { result ≡ least (domain_limits domain.now) }
+{
+    least_of_domain(domain)
 }
 
 fn piece_place(piece: &PieceDef) -> u32
@@ -129,7 +137,7 @@ fn piece_at(pieces: &[PieceDef], place: usize) -> Option<&PieceDef>
 
 #[tactic(auto, using(crate::proofs::Least::least_of))]
 fn least_past_pieces(pieces: &[PieceDef], found: Option<Offence>) -> Option<Offence>
-    ensures { result ≡ least_with found (past_piece (slice_get pieces.now MOST_PIECES)) }
+    ensures { result ≡ least_with found (past_piece (slice_get pieces.now pieces_limit)) }
 {
     match piece_at(pieces, MOST_PIECES) {
         Some(piece) => met(found, Kind::Limit, piece_place(piece)),
@@ -168,13 +176,19 @@ fn least_of_time_costs(costs: &[TimeCost], found: Option<Offence>) -> Option<Off
     found
 }
 
-/// The least place at which a problem of the domain holds more than it may: the object that is the 513th of the domain's
-/// constants and its own objects, or the seventeenth piece of a time cost. `None` where it doesn't.
 #[tactic(auto, using(crate::proofs::Least::least_of), unfolding(crate::specs::Limits::problem_limits))]
-pub fn problem_limit_offence(domain: &Domain, problem: &Problem) -> Option<Offence>
-    ensures { result ≡ least (problem_limits domain.now problem.now) }
+fn least_of_problem(domain: &Domain, problem: &Problem) -> Option<Offence>
+    ensures { result ≡ least_with None (problem_limits domain.now problem.now) }
 {
     let room = room_beside(MOST_OBJECTS, domain.constants.as_slice());
     let found = least_past(room, problem.objects.as_slice(), None);
     least_of_time_costs(problem.time_costs.as_slice(), found)
+}
+
+/// The least place at which a problem of the domain holds more than it may: the object that is the 513th of the domain's
+/// constants and its own objects, or the seventeenth piece of a time cost. `None` where it doesn't.
+pub fn problem_limit_offence(domain: &Domain, problem: &Problem) -> Option<Offence>
+    ensures { result ≡ least (problem_limits domain.now problem.now) }
+{
+    least_of_problem(domain, problem)
 }

@@ -6,7 +6,7 @@ ghost use Rattle.pddl_forms.specs.Offences.{least_with};
 ghost use Rattle.pddl_forms.specs.Requirements.{is_condition_flag, is_number_flag, is_other_flag, is_known, requirement_offences, requirements_offences};
 
 use crate::expressions::met_unless;
-use crate::offences::Offence;
+use pddl_names::Offence;
 use pddl_terms::{Kind, Name};
 
 fn same_word(word: &[u8], other: &[u8]) -> bool

@@ -9,8 +9,9 @@ ghost use Rattle.pddl_forms.specs.TimeCosts.{is_below, is_at_most, is_rise, goes
 use crate::expressions::met_unless;
 use crate::formulas::least_of_formula;
 use crate::functions::Functions;
-use crate::offences::{Offence, met};
+use crate::offences::met;
 use exact_lin::{Fraction, Scalar};
+use pddl_names::Offence;
 use pddl_terms::{CostCurve, Kind, PieceDef, TimeCost};
 use std::cmp::Ordering;
 

@@ -11,10 +11,10 @@ ghost use Rattle.pddl_forms.specs.Keys.{keys_of, is_seen, clashes_seen};
 use crate::effects::least_of_call;
 use crate::expressions::met_unless;
 use crate::keys::key;
-use crate::offences::{Offence, met};
+use crate::offences::met;
 use crate::time_costs::is_below;
 use exact_lin::{Fraction, NoMemory, Scalar};
-use pddl_names::Names;
+use pddl_names::{Names, Offence};
 use pddl_terms::{Call, InitEntry, Kind, TimedLiteral};
 use std::alloc::Global;
 

@@ -5,7 +5,8 @@ ghost use Rattle.std.specs.List.{flat_map};
 ghost use Rattle.pddl_forms.specs.Offences.{least_with};
 ghost use Rattle.pddl_forms.specs.TypedLists.{type_offences, typed_offences, declared_offences};
 
-use crate::offences::{Offence, met};
+use crate::offences::met;
+use pddl_names::Offence;
 use pddl_terms::{Declared, Group, Kind, TypeName};
 
 #[tactic(auto, using(crate::proofs::Least::least_of))]
