@@ -1,0 +1,13 @@
+pub mod Least
+pub mod Changes
+pub mod Judgements
+pub mod ConditionOffences
+pub mod FormulaOffences
+pub mod EffectOffences
+pub mod GoalOffences
+pub mod Pieces
+pub mod NamesIn
+pub mod KeysApart
+pub mod Clashes
+pub mod FirstLeast
+pub mod Accepting

@@ -1,0 +1,11 @@
+use Rattle.std.proofs.Common.{◌≡◌, take}
+use Rattle.std.specs.List.{flat_map}
+use Rattle.pddl_forms.specs.Offences.{least_with}
+use Rattle.pddl_forms.specs.Conditions.{timed_condition_offences}
+use Rattle.pddl_forms.proofs.conditions.+least_of_timed_condition.Given as goal
+
+abbrev pub decreases-least_of_timed_condition : goal.decreases-least_of_timed_condition
+decreases-least_of_timed_condition l = goal.size-least_of_timed_condition l
+
+abbrev pub invariant-loop-part : goal.invariant-loop-part
+invariant-loop-part l = l.found ≡ least_with l.fn.found (flat_map (timed_condition_offences l.functions) (take l.part-index l.part-items))

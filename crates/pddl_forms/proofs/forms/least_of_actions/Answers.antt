@@ -1,0 +1,6 @@
+use Rattle.pddl_forms.specs.Forms.{action_offences}
+use Rattle.pddl_forms.proofs.Least.{least-next}
+use Rattle.pddl_forms.proofs.forms.least_of_actions.Goals as goal
+
+pub loop-action-preserved : goal.loop-action-preserved
+loop-action-preserved c = least-next (action_offences c.args.functions.now) c.args.found c.loop-action.found c.least_of_action-found.result c.args.actions.now c.loop-action.action-index c.action-item.result c.loop-action-test.true c.action-item.is c.loop-action.invariant c.least_of_action-found.ensures

@@ -1,0 +1,8 @@
+use Rattle.std.proofs.Common.{◌≡◌, take}
+use Rattle.std.specs.List.{flat_map}
+use Rattle.pddl_forms.specs.Offences.{least_with}
+use Rattle.pddl_forms.specs.Forms.{action_offences}
+use Rattle.pddl_forms.proofs.forms.least_of_actions.Given as goal
+
+abbrev pub invariant-loop-action : goal.invariant-loop-action
+invariant-loop-action l = l.found ≡ least_with l.fn.found (flat_map (action_offences l.functions) (take l.action-index l.actions))

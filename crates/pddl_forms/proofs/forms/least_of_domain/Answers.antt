@@ -1,0 +1,6 @@
+use Rattle.std.proofs.Common.{◌∙◌}
+use Rattle.pddl_forms.proofs.Least.{least_with-all}
+use Rattle.pddl_forms.proofs.forms.least_of_domain.Goals as goal
+
+pub returns : goal.returns
+returns c = c.least_of_parts.ensures ∙ least_with-all _

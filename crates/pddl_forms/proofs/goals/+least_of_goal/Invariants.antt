@@ -1,0 +1,11 @@
+use Rattle.std.proofs.Common.{◌≡◌, take}
+use Rattle.std.specs.List.{flat_map}
+use Rattle.pddl_forms.specs.Offences.{least_with}
+use Rattle.pddl_forms.specs.Goals.{goal_offences}
+use Rattle.pddl_forms.proofs.goals.+least_of_goal.Given as goal
+
+abbrev pub decreases-least_of_goal : goal.decreases-least_of_goal
+decreases-least_of_goal l = goal.size-least_of_goal l
+
+abbrev pub invariant-loop-part : goal.invariant-loop-part
+invariant-loop-part l = l.found ≡ least_with l.fn.found (flat_map (goal_offences l.functions) (take l.part-index l.part-items))

@@ -1,0 +1,16 @@
+pub mod Offences
+pub mod TypedLists
+pub mod Functions
+pub mod Expressions
+pub mod Conditions
+pub mod Formulas
+pub mod Effects
+pub mod Goals
+pub mod TimeCosts
+pub mod TimedLiterals
+pub mod Requirements
+pub mod Forms
+pub mod Limits
+pub mod Keys
+pub mod Laws
+pub mod Accepted
