@@ -1,0 +1,16 @@
+pub mod Coefficients
+pub mod Merging
+pub mod Replacing
+pub mod SolvedTerms
+pub mod Changes
+pub mod Pointing
+pub mod RowParts
+pub mod RowReads
+pub mod Pivoting
+pub mod Walking
+pub mod FirstRows
+pub mod ResultSteps
+pub mod WiderParts
+pub mod Mixing
+pub mod Nonzeros
+pub mod Answering

@@ -1,0 +1,9 @@
+pub mod SparseRows
+pub mod SparseChanges
+pub mod SparsePivots
+pub mod SparseTableaus
+pub mod SparseTurns
+pub mod Stops
+pub mod NarrowPrograms
+pub mod Widths
+pub mod NonzeroMultipliers

@@ -1,0 +1,104 @@
+//! The first dictionary of a program, without its zeros.
+
+ghost use Rattle.std.specs.Prelude.{◌≡◌, ℕ, ◌+◌, ◌<◌, ◌^◌, length, map, IfOk, ◌++◌, ◌∷◌, []};
+ghost use Rattle.rational.specs.Rows.{row_at};
+ghost use Rattle.std.specs.List.{range_with_len, All};
+ghost use Rattle.lp_tableau.specs.Dictionaries.{initial, slack_row};
+ghost use Rattle.lp_sparse.specs.SparseRows.{terms_of, terms_of_rows, filled, IsRow, IsRowOf};
+ghost use Rattle.lp_sparse.specs.SparseTableaus.{AreRows, dictionary_of};
+
+use crate::merge::push_term;
+use crate::tableau::Tableau;
+use cert_core::Rows;
+use exact_lin::{Id, NoMemory, Scalar};
+use std::alloc::Global;
+
+// `count` numbers from `start` on.
+fn numbers(alloc: Global, start: usize, count: usize) -> Result<Vec<usize>, NoMemory>
+    requires { start + count < 2 ^ 64 }
+    ensures { IfOk result (λ v. v.items ≡ range_with_len start count) }
+{
+    let mut numbers = Vec::new(alloc);
+    for k in 0..count {
+        numbers.push(start + k)?;
+    }
+    Ok(numbers)
+}
+
+// The row of a slack: the bound less the row's factors times the variables.
+fn slack<R: Id, V: Id, S: Scalar, P: Rows<R, V, S>>(
+    alloc: Global,
+    program: &P,
+    r: R,
+) -> Result<Vec<(usize, S)>, NoMemory>
+    requires { R.number_of r < length (P.program program.now).rows }
+    ensures { IfOk result (λ v. IsRowOf S.limit (length (P.program program.now).costs + 1)
+        (slack_row (row_at (P.program program.now).rows (R.number_of r)))
+        (terms_of S.value v.items)) }
+{
+    let mut row = Vec::new(alloc);
+    let variables = program.var_count();
+    for v in 0..variables {
+        push_term(&mut row, v as usize, program.entry(r, V::of(v)).neg())?;
+    }
+    push_term(&mut row, variables as usize, program.bound(r))?;
+    Ok(row)
+}
+
+// The rows of all slacks.
+fn slacks<R: Id, V: Id, S: Scalar, P: Rows<R, V, S>>(
+    alloc: Global,
+    program: &P,
+) -> Result<Vec<Vec<(usize, S)>>, NoMemory>
+    ensures rows { IfOk result (λ v. All (IsRow S.limit (length (P.program program.now).costs + 1))
+        (terms_of_rows S.value v.items)) }
+    ensures gives { IfOk result (λ v. map (filled (length (P.program program.now).costs + 1))
+        (terms_of_rows S.value v.items) ≡ map slack_row (P.program program.now).rows) }
+{
+    let mut rows = Vec::new(alloc);
+    for r in 0..program.row_count() {
+        let row = slack(alloc, program, R::of(r))?;
+        rows.push(row)?;
+    }
+    Ok(rows)
+}
+
+// The cost's row.
+fn costs<R: Id, V: Id, S: Scalar, P: Rows<R, V, S>>(
+    alloc: Global,
+    program: &P,
+) -> Result<Vec<(usize, S)>, NoMemory>
+    ensures { IfOk result (λ v. IsRowOf S.limit (length (P.program program.now).costs + 1)
+        ((P.program program.now).costs ++ (P.program program.now).base ∷ [])
+        (terms_of S.value v.items)) }
+{
+    let mut row = Vec::new(alloc);
+    let variables = program.var_count();
+    for v in 0..variables {
+        push_term(&mut row, v as usize, program.cost(V::of(v)))?;
+    }
+    push_term(&mut row, variables as usize, program.base())?;
+    Ok(row)
+}
+
+// The first dictionary of the program.
+pub(crate) fn first_tableau<R: Id, V: Id, S: Scalar, P: Rows<R, V, S>>(
+    alloc: Global,
+    program: &P,
+) -> Result<Tableau<S>, NoMemory>
+    ensures rows { IfOk result (AreRows S.value S.limit) }
+    ensures dictionary { IfOk result (λ t. dictionary_of S.value t
+        ≡ initial (P.program program.now)) }
+{
+    let variables = program.var_count() as usize;
+    let basic = numbers(alloc, variables, program.row_count() as usize)?;
+    let nonbasic = numbers(alloc, 0, variables)?;
+    let rows = slacks(alloc, program)?;
+    let cost = costs(alloc, program)?;
+    Ok(Tableau {
+        basic,
+        nonbasic,
+        rows,
+        cost,
+    })
+}
