@@ -15,7 +15,7 @@ returns-in-Ok c plan k b lt =
     let after = c.in-Ok.ensures plan k b there in
     let more : suc c.happen.new.self.sweep.agenda.place < count c.args.task.now.parts plan = omega (arith, after.1.place, lt) in
     second-part c.advance.result (effects_at c.args.task.now.parts plan k) (move_at c.args.task.now.parts plan k) _ _ after.0
-    (λ u p. record { sweep = p.0; place = p.1.0 ∙ ap suc after.1.place; seen = after.1.seen })
+    (λ u p. record { sweep = p.0; place = p.1 ∙ ap suc after.1.place; seen = after.1.seen })
     (subst (λ (i : ℕ). Tells c.advance.result (move_at c.args.task.now.parts plan i) (λ _. IsBefore c.args.task.now.parts plan c.advance.new.self × (c.advance.new.self.agenda.place ≡ suc c.happen.new.self.sweep.agenda.place) × GoesOn c.happen.new.self.sweep c.advance.new.self)) after.1.place
     (c.advance.ensures plan after.1.sweep more))
 
