@@ -5,3 +5,6 @@ pub mod Least
 pub mod Numbered
 pub mod Tabled
 pub mod WalkSteps
+pub mod Firsts
+pub mod Orders
+pub mod Ways

@@ -5,4 +5,4 @@ pub mod Fitting
 pub mod Offences
 pub mod Scopes
 pub mod Walks
-pub mod Files
+pub mod Laws

@@ -12,6 +12,7 @@ mod expressions;
 mod fitting;
 mod formulas;
 mod goals;
+mod laws;
 mod names;
 mod offences;
 mod scope;
@@ -21,6 +22,7 @@ mod typed_lists;
 
 pub use equality::is_equality;
 pub use fitting::fits;
+pub use laws::{fitting_is_an_order, least_offence_is_first};
 pub use names::Names;
 pub use offences::{Offence, Phase};
 pub use tables::Table;
