@@ -24,15 +24,15 @@ Fits types t u = (is_nothing t ≡ true) ⊎ ((is_nothing u ≡ true) ⊎ ((byte
 cases : (types : List Typed) (t u : Text) → fits types t u ≡ true → Fits types t u
 unfolding fits
 cases types t u h = elim (or_cases (is_nothing t) (is_nothing u || (bytes_eq u object_word || is_below types t u)) h) [
-    inl a ↦ inl a
+  | inl a ↦ inl a
   | inr b ↦ elim (or_cases (is_nothing u) (bytes_eq u object_word || is_below types t u) b) [
-        inl a ↦ inr (inl a)
-      | inr c ↦ elim (or_cases (bytes_eq u object_word) (is_below types t u) c) [
-            inl a ↦ inr (inr (inl a))
-          | inr d ↦ inr (inr (inr (chain-way types (length types) t u d)))
-          ]
-      ]
+    | inl a ↦ inr (inl a)
+    | inr c ↦ elim (or_cases (bytes_eq u object_word) (is_below types t u) c) [
+      | inl a ↦ inr (inr (inl a))
+      | inr d ↦ inr (inr (inr (chain-way types (length types) t u d)))
+    ]
   ]
+]
 
 fits_nothing : (types : List Typed) (t u : Text) → is_nothing t ≡ true → fits types t u ≡ true
 unfolding fits

@@ -118,10 +118,10 @@ shorten zero types few (suc fuel) (suc n) h t u w = let k = without-less types t
 shorten (suc most) types few (suc fuel) (suc n) h t u w =
     let less = without-less types t w.0 (step_declared types t w.0 w.1.0) in
     elim (way_passes types t n w.0 u w.1.1) [
-      inl v ↦
-        let rest = shorten most (without types t) (omega arith) n n (omega arith) w.0 u v in
-        (suc rest.0, (omega (arith, rest.1.0), (w.0, (w.1.0, way_with types t rest.0 w.0 u rest.1.1))))
-    | inr v ↦ shorten (suc most) types few fuel v.0 (omega (arith, v.1.0)) t u v.1.1
+      | inl v ↦
+          let rest = shorten most (without types t) (omega arith) n n (omega arith) w.0 u v in
+          (suc rest.0, (omega (arith, rest.1.0), (w.0, (w.1.0, way_with types t rest.0 w.0 u rest.1.1))))
+      | inr v ↦ shorten (suc most) types few fuel v.0 (omega (arith, v.1.0)) t u v.1.1
     ]
 
 -- no way needs more steps than there are types

@@ -9,12 +9,10 @@ ghost use Rattle.std.specs.Prelude.{List};
 /// rings; a type that is left out has no part in it.
 pub fn fitting_is_an_order()
     ensures { (types : List Typed) (t u v : Text) → FittingIsAnOrder types t u v }
-{
-}
+{}
 
 /// An answered offence is one of those that the definition lists, none of them stands before it, and none is answered
 /// exactly where there is none.
 pub fn least_offence_is_first()
     ensures { (offences : List Offence) (o : Offence) → LeastIsFirst offences o }
-{
-}
+{}
