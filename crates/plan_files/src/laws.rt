@@ -1,0 +1,13 @@
+//! Laws of the definitions: each function does nothing, and its contract is the law.
+
+ghost use Rattle.plan_files.specs.Laws.{WordsAreOne, LinesComeOut};
+
+/// A line is made of one list of words at most.
+pub fn words_are_one()
+    ensures { WordsAreOne }
+{}
+
+/// Small lines and texts, cut by hand.
+pub fn lines_come_out()
+    ensures { LinesComeOut }
+{}
