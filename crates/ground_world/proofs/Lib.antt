@@ -7,3 +7,9 @@ pub mod PartSteps
 pub mod Weights
 pub mod Definedness
 pub mod Nested
+pub mod Dividing
+pub mod Listing
+pub mod Heights
+pub mod Capped
+pub mod Exactness
+pub mod Ascending

@@ -21,7 +21,7 @@ use Rattle.ground_world.proofs.Walks.{condition_parts-And, condition_parts-Foral
 
 -- ---- within the limit
 
-sum-least : (ns : List ℕ) → together ns ≤ sum_or_one ns
+pub sum-least : (ns : List ℕ) → together ns ≤ sum_or_one ns
 sum-least [] = omega arith
 sum-least (n ∷ ns) = omega arith
 

@@ -1,7 +1,9 @@
 -- One more variable: what is left of a list, and what a loop over the variables keeps.
 use Rattle.std.proofs.Common.{◌≡◌, sym, ap, ap₂, ◌∙◌, ℕ, ◌+◌, ◌*◌, ◌/◌, ◌%◌, ◌<◌, List, [], ◌∷◌, ◌++◌, length, take, drop, get_or, subst, append_assoc, add-one}
 use Rattle.std.proofs.Math.Seq.{drop-cons}
-use Rattle.std.proofs.lemmas.List.{map-append, take_more}
+use Rattle.std.specs.List.{flat_map}
+use Rattle.std.proofs.lemmas.List.{map-append, take_more, append-nil}
+use Rattle.std.proofs.lemmas.List.Concat.{flat_map-append}
 use Rattle.ground_world.specs.World.{Env}
 use Rattle.ground_world.specs.Bindings.{choice_count, choice_at, paired}
 use Rattle.ground_world.specs.Shown.{env_of, names_of, columns_of}
@@ -16,6 +18,12 @@ dropped xs i x h e = drop-cons xs i x h ∙ ap₂ (λ y n. y ∷ drop n xs) (sym
 -- one more item
 pub taken : {X : Type 0} (xs : List X) (i : ℕ) (x : X) → i < length xs → x ≡ get_or xs i x → take (i + 1) xs ≡ take i xs ++ (x ∷ [])
 taken xs i x h e = take_more xs i x h ∙ ap (λ y. take i xs ++ (y ∷ [])) (sym e)
+
+-- one more part
+pub parts_more : {X Y : Type 0} (f : X → List Y) (xs : List X) (i : ℕ) (x : X) → i < length xs → x ≡ get_or xs i x
+    → flat_map f (take (i + 1) xs) ≡ flat_map f (take i xs) ++ f x
+parts_more f xs i x h e =
+    ap (flat_map f) (taken xs i x h e) ∙ flat_map-append f (take i xs) (x ∷ []) ∙ ap (λ l. flat_map f (take i xs) ++ l) (append-nil (f x))
 
 -- what a loop over the variables keeps: how many ways the variables that are left have, which of these is meant, and that the binding so far, with that way, is the whole one
 abbrev pub Comes : ℕ → ℕ → Env → List Variable → Env → Type 0

@@ -44,6 +44,7 @@ use Rattle.pddl_terms.specs.declared.trees.RateTree.{RateTree}
 use Rattle.ground_world.specs.Changes.{Change, Staged, effect_layer, effect_parts, timed_effect_layer, timed_effect_parts}
 use Rattle.ground_world.specs.Conditions.{DurationBound, Part, condition_layer, condition_parts, duration_bounds, duration_layer, timed_condition_layer, timed_condition_parts}
 use Rattle.ground_world.specs.Counts.{condition_count, condition_count_layer, formula_count, formula_count_layer, goal_count_layer, hard_count, soft_count, soft_count_layer, timed_count, timed_count_layer}
+use Rattle.ground_world.specs.Exact.{exact, exact_layer}
 use Rattle.ground_world.specs.Expressions.{Reckoned, Unknowns, mentioned, mentioned_layer, reckoned, reckoned_layer}
 use Rattle.ground_world.specs.Leaves.{Leaf, Named, constraint_layer, constraint_leaves, goal_preferences, preference_layer}
 use Rattle.ground_world.specs.World.{Env, GroundAtom, World}
@@ -393,6 +394,80 @@ module _ (w : World) (env : Env) where
   mentioned-TimeCost a b = ap (λ t. fold-ExprTree (List (ℕ × GroundAtom)) (mentioned_layer w env) t) (sym (expr.rolls-TimeCost a b))
       ∙ fold-roll-ExprTree (List (ℕ × GroundAtom)) (mentioned_layer w env) (ExprTree-F.TimeCost a b)
 
+-- exact
+module _ (w : World) (us : Unknowns) (env : Env) (x : ℕ → ℚ) where
+  pub exact-Number : (a : ℕ) (b : ℚ) → exact w us env x (expr.Number a b)
+      ≡ exact_layer w us env x (ExprTree-F.Number a b)
+  unfolding exact
+  exact-Number a b = ap (λ t. fold-ExprTree ℚ (exact_layer w us env x) t) (sym (expr.rolls-Number a b))
+      ∙ fold-roll-ExprTree ℚ (exact_layer w us env x) (ExprTree-F.Number a b)
+
+  pub exact-Fluent : (a : Atom) → exact w us env x (expr.Fluent a)
+      ≡ exact_layer w us env x (ExprTree-F.Fluent a)
+  unfolding exact
+  exact-Fluent a = ap (λ t. fold-ExprTree ℚ (exact_layer w us env x) t) (sym (expr.rolls-Fluent a))
+      ∙ fold-roll-ExprTree ℚ (exact_layer w us env x) (ExprTree-F.Fluent a)
+
+  pub exact-Duration : (a : ℕ) → exact w us env x (expr.Duration a)
+      ≡ exact_layer w us env x (ExprTree-F.Duration a)
+  unfolding exact
+  exact-Duration a = ap (λ t. fold-ExprTree ℚ (exact_layer w us env x) t) (sym (expr.rolls-Duration a))
+      ∙ fold-roll-ExprTree ℚ (exact_layer w us env x) (ExprTree-F.Duration a)
+
+  pub exact-Sum : (a : ℕ) (b : List ExprTree) → exact w us env x (expr.Sum a b)
+      ≡ exact_layer w us env x (ExprTree-F.Sum a (map (λ c. exact w us env x c) b))
+  unfolding exact
+  exact-Sum a b = ap (λ t. fold-ExprTree ℚ (exact_layer w us env x) t) (sym (expr.rolls-Sum a b))
+      ∙ fold-roll-ExprTree ℚ (exact_layer w us env x) (ExprTree-F.Sum a b)
+
+  pub exact-Product : (a : ℕ) (b : List ExprTree) → exact w us env x (expr.Product a b)
+      ≡ exact_layer w us env x (ExprTree-F.Product a (map (λ c. exact w us env x c) b))
+  unfolding exact
+  exact-Product a b = ap (λ t. fold-ExprTree ℚ (exact_layer w us env x) t) (sym (expr.rolls-Product a b))
+      ∙ fold-roll-ExprTree ℚ (exact_layer w us env x) (ExprTree-F.Product a b)
+
+  pub exact-Negative : (a : ℕ) (b : ExprTree) → exact w us env x (expr.Negative a b)
+      ≡ exact_layer w us env x (ExprTree-F.Negative a (exact w us env x b))
+  unfolding exact
+  exact-Negative a b = ap (λ t. fold-ExprTree ℚ (exact_layer w us env x) t) (sym (expr.rolls-Negative a b))
+      ∙ fold-roll-ExprTree ℚ (exact_layer w us env x) (ExprTree-F.Negative a b)
+
+  pub exact-Difference : (a : ℕ) (b : ExprTree) (c : ExprTree) → exact w us env x (expr.Difference a b c)
+      ≡ exact_layer w us env x (ExprTree-F.Difference a (exact w us env x b) (exact w us env x c))
+  unfolding exact
+  exact-Difference a b c = ap (λ t. fold-ExprTree ℚ (exact_layer w us env x) t) (sym (expr.rolls-Difference a b c))
+      ∙ fold-roll-ExprTree ℚ (exact_layer w us env x) (ExprTree-F.Difference a b c)
+
+  pub exact-Quotient : (a : ℕ) (b : ExprTree) (c : ExprTree) → exact w us env x (expr.Quotient a b c)
+      ≡ exact_layer w us env x (ExprTree-F.Quotient a (exact w us env x b) (exact w us env x c))
+  unfolding exact
+  exact-Quotient a b c = ap (λ t. fold-ExprTree ℚ (exact_layer w us env x) t) (sym (expr.rolls-Quotient a b c))
+      ∙ fold-roll-ExprTree ℚ (exact_layer w us env x) (ExprTree-F.Quotient a b c)
+
+  pub exact-LeftOut : (a : ℕ) → exact w us env x (expr.LeftOut a)
+      ≡ exact_layer w us env x (ExprTree-F.LeftOut a)
+  unfolding exact
+  exact-LeftOut a = ap (λ t. fold-ExprTree ℚ (exact_layer w us env x) t) (sym (expr.rolls-LeftOut a))
+      ∙ fold-roll-ExprTree ℚ (exact_layer w us env x) (ExprTree-F.LeftOut a)
+
+  pub exact-TotalTime : (a : ℕ) → exact w us env x (expr.TotalTime a)
+      ≡ exact_layer w us env x (ExprTree-F.TotalTime a)
+  unfolding exact
+  exact-TotalTime a = ap (λ t. fold-ExprTree ℚ (exact_layer w us env x) t) (sym (expr.rolls-TotalTime a))
+      ∙ fold-roll-ExprTree ℚ (exact_layer w us env x) (ExprTree-F.TotalTime a)
+
+  pub exact-Violated : (a : ℕ) (b : Name) → exact w us env x (expr.Violated a b)
+      ≡ exact_layer w us env x (ExprTree-F.Violated a b)
+  unfolding exact
+  exact-Violated a b = ap (λ t. fold-ExprTree ℚ (exact_layer w us env x) t) (sym (expr.rolls-Violated a b))
+      ∙ fold-roll-ExprTree ℚ (exact_layer w us env x) (ExprTree-F.Violated a b)
+
+  pub exact-TimeCost : (a : ℕ) (b : Name) → exact w us env x (expr.TimeCost a b)
+      ≡ exact_layer w us env x (ExprTree-F.TimeCost a b)
+  unfolding exact
+  exact-TimeCost a b = ap (λ t. fold-ExprTree ℚ (exact_layer w us env x) t) (sym (expr.rolls-TimeCost a b))
+      ∙ fold-roll-ExprTree ℚ (exact_layer w us env x) (ExprTree-F.TimeCost a b)
+
 -- goal_preferences
 module _ where
   pub goal_preferences-Condition : (a : CondTree) → goal_preferences (goal.Condition a)
@@ -703,6 +778,18 @@ pub ruleset walks = (
   mentioned-TotalTime,
   mentioned-Violated,
   mentioned-TimeCost,
+  exact-Number,
+  exact-Fluent,
+  exact-Duration,
+  exact-Sum,
+  exact-Product,
+  exact-Negative,
+  exact-Difference,
+  exact-Quotient,
+  exact-LeftOut,
+  exact-TotalTime,
+  exact-Violated,
+  exact-TimeCost,
   goal_preferences-Condition,
   goal_preferences-And,
   goal_preferences-Forall,

@@ -1,5 +1,5 @@
 -- Believed: what an action changes: the parts of its effects, in the order of the text.
-use Rattle.std.specs.Prelude.{ℕ, Bool, true, false, List, [], ◌∷◌, ◌++◌, map}
+use Rattle.std.specs.Prelude.{Bool, true, false, List, [], ◌∷◌, map}
 use Rattle.std.specs.List.{flat_map, filter}
 use Rattle.pddl_terms.specs.declared.trees.Atom.{Atom}
 use Rattle.pddl_terms.specs.declared.trees.Call.{Call}
@@ -15,13 +15,9 @@ use Rattle.pddl_terms.specs.declared.trees.ExprTree.{ExprTree}
 use Rattle.pddl_terms.specs.declared.files.ActionBody.{ActionBody}
 use Rattle.pddl_terms.specs.declared.files.ActionBody.TheVariants.{Instant, Durative}
 use Rattle.pddl_terms.specs.declared.files.ActionDef.{ActionDef}
+use Rattle.ground_world.specs.declared.changes.Stage.{Stage}
+use Rattle.ground_world.specs.declared.changes.Stage.TheVariants.{AtStart, OverAll, AtEnd}
 use Rattle.ground_world.specs.World.{either}
-
--- where in an action a part belongs (in PDDL 2.1 its time specifier); an instantaneous action has all at its start
-pub data Stage : Type 0 where
-  AtStart : Stage
-  OverAll : Stage
-  AtEnd : Stage
 
 abbrev pub same_stage : Stage → Stage → Bool
 same_stage AtStart AtStart = true

@@ -17,9 +17,10 @@ use Rattle.pddl_terms.specs.declared.trees.DurTree.TheOpen.{DurTree-F}
 use Rattle.pddl_terms.specs.declared.files.ActionBody.{ActionBody}
 use Rattle.pddl_terms.specs.declared.files.ActionBody.TheVariants.{Instant, Durative}
 use Rattle.pddl_names.specs.Equalities.{is_equality}
+use Rattle.ground_world.specs.declared.changes.Stage.TheVariants.{AtStart, OverAll, AtEnd}
 use Rattle.ground_world.specs.World.{either, World, Env, bound, place_in, GroundAtom, ground_atom, symbol}
 use Rattle.ground_world.specs.Bindings.{bindings}
-use Rattle.ground_world.specs.Changes.{AtStart, OverAll, AtEnd, Staged, staged}
+use Rattle.ground_world.specs.Changes.{Staged, staged}
 use Rattle.ground_world.specs.Expressions.{Unknowns, Reckoned, reckoned, operated, added, minus_one, minus_form, form_or_zero, negative}
 
 -- ---- sides of an `=`

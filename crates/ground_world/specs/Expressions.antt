@@ -1,8 +1,7 @@
 -- Believed: how an expression is reckoned: from the inside out, operands from left to right, as a constant and
 -- coefficients, in fractions of 128 bits; and where it has no value.
-use Rattle.std.specs.Prelude.{ℕ, ◌+◌, Bool, true, false, ◌&&◌, not, nat_le, if◌then◌else◌, List, [], ◌∷◌, ◌++◌, length, Option, Some, None, pos, negsuc}
-use Rattle.std.specs.List.{flat_map, position_or_len}
-use Rattle.std.specs.Str.{bytes_eq}
+use Rattle.std.specs.Prelude.{ℕ, ◌+◌, ◌*◌, Bool, true, false, ◌&&◌, not, nat_le, if◌then◌else◌, List, [], ◌∷◌, ◌++◌, length, Option, Some, None, pos, negsuc}
+use Rattle.std.specs.List.{flat_map}
 use lib.IntN.{nat_abs}
 use Rattle.rational.specs.Rational.{ℚ, zeroℚ, whole, ◌*ℚ◌, inverse}
 use Rattle.exact_lin.specs.Reckoning.{wide_limit, product_numerator, product_denominator, left_term, right_term, both_terms, sum_denominator}
@@ -10,7 +9,9 @@ use Rattle.exact_lin.specs.Forms.{LinearForm, Terms, coefficient, constant_form,
 use Rattle.pddl_terms.specs.declared.trees.ExprTree.{ExprTree, fold-ExprTree}
 use Rattle.pddl_terms.specs.declared.trees.ExprTree.TheOpen.{ExprTree-F}
 use Rattle.pddl_names.specs.Declarations.{Text}
-use Rattle.ground_world.specs.World.{either, World, Env, GroundAtom, ground_fluent, symbol, number_in}
+use Rattle.ground_world.specs.declared.operations.Flaw.{Flaw}
+use Rattle.ground_world.specs.declared.operations.Flaw.TheVariants.{TooWide, ZeroDivisor}
+use Rattle.ground_world.specs.World.{either, World, Env, GroundAtom, place_in, ground_fluent, symbol, number_in}
 
 -- ---- sums and products of forms, where they are defined
 
@@ -58,11 +59,6 @@ product_forms f [] = Some f
 product_forms f (g ∷ gs) = then_form (product_form f g) (λ h. product_forms h gs)
 
 -- ---- what is reckoned of an expression
-
--- Why an expression has no value: a list's own reckoning is undefined while its operands are defined, or a divisor is 0.
-pub data Flaw : Type 0 where
-  TooWide : (place : ℕ) → Flaw
-  ZeroDivisor : (place : ℕ) → Flaw
 
 -- where an expression begins, its value where it has one, and its flaws in the order of the reckoning
 pub record Reckoned : Type 0 where
@@ -118,7 +114,7 @@ divided p r s = if either false (λ g. is_zero g.constant) s.value
 -- ---- unknowns
 
 -- The unknowns of a form are the fluents by their numbers; then `?duration` or `total-time`; then, in a metric, the
--- names of preferences and of time costs.
+-- names of preferences and of time costs by turns.
 pub record Unknowns : Type 0 where
   pub preferences : List Text
   pub costs : List Text
@@ -127,10 +123,10 @@ abbrev pub own_unknown : World → ℕ
 own_unknown w = length w.fluents
 
 abbrev pub preference_unknown : World → Unknowns → Text → ℕ
-preference_unknown w us n = own_unknown w + 1 + position_or_len (λ m. bytes_eq m n) us.preferences
+preference_unknown w us n = own_unknown w + 1 + 2 * place_in us.preferences n
 
 abbrev pub cost_unknown : World → Unknowns → Text → ℕ
-cost_unknown w us n = own_unknown w + 1 + length us.preferences + position_or_len (λ m. bytes_eq m n) us.costs
+cost_unknown w us n = own_unknown w + 2 + 2 * place_in us.costs n
 
 -- A fluent of a static function is its value, any other an unknown.
 abbrev pub fluent_form : World → GroundAtom → LinearForm

@@ -1,5 +1,5 @@
 -- Believed: what is static, what holds at first, the fluents and their first values: the world of a domain and a problem.
-use Rattle.std.specs.Prelude.{ℕ, Bool, false, not, ◌==◌, List, [], ◌∷◌, ◌++◌, map, None, is_some}
+use Rattle.std.specs.Prelude.{ℕ, Bool, true, false, not, ◌==◌, List, [], ◌∷◌, ◌++◌, map, None, is_some}
 use Rattle.std.specs.List.{flat_map, filter, enumerate_from, list_any}
 use Rattle.rational.specs.Rational.{ℚ}
 use Rattle.pddl_terms.specs.declared.files.Declared.{Declared}
@@ -7,7 +7,7 @@ use Rattle.pddl_terms.specs.declared.files.Domain.{Domain}
 use Rattle.pddl_terms.specs.declared.files.Problem.{Problem}
 use Rattle.pddl_terms.specs.declared.files.InitEntry.{InitEntry}
 use Rattle.pddl_terms.specs.declared.files.InitEntry.TheVariants as init
-use Rattle.pddl_names.specs.Declarations.{Text, Typed, among, value_of, declared_types, declared_objects, signatures}
+use Rattle.pddl_names.specs.Declarations.{Text, Typed, Signature, among, value_of, with_firsts, declared_types, declared_objects, signatures}
 use Rattle.pddl_names.specs.Fitting.{fits}
 use Rattle.ground_world.specs.World.{World, place_in, GroundAtom, ground_atom, ground_fluent}
 use Rattle.ground_world.specs.Changes.{Change, Adds, Deletes, Moves, Flows, atoms_in, changes}
@@ -15,8 +15,20 @@ use Rattle.ground_world.specs.Bindings.{choices}
 
 -- ---- declared names
 
-abbrev pub names_of : List Declared → List Text
-names_of ds = map (λ s. s.0) (signatures ds)
+-- Where a name is declared twice, its first declaration counts.
+abbrev pub types_of : Domain → List Typed
+types_of d = with_firsts [] (declared_types d)
+
+-- the constants of the domain, then the objects of the problem
+abbrev pub objects_of : Domain → Problem → List Typed
+objects_of d p = with_firsts [] (declared_objects d p)
+
+abbrev pub signatures_of : List Declared → List Signature
+signatures_of ds = with_firsts [] (signatures ds)
+
+-- the names of some declarations, in their order
+abbrev pub names_of : {V : Type 0} → List (Text × V) → List Text
+names_of es = map (λ e. e.0) es
 
 -- the places of the objects that fit a type, ascending
 abbrev pub places_fitting : List Typed → List Typed → Text → List ℕ
@@ -74,19 +86,19 @@ given_value w (init.LeftOut at) = []
 -- all bindings of the predicates or functions that pass, in order
 abbrev pub all_atoms : World → (ℕ → Bool) → List Declared → List GroundAtom
 all_atoms w passes ds = flat_map (λ x. map (λ os. x.0 ∷ os) (choices (map w.fitting x.1.1)))
-    (filter (λ x. passes x.0) (enumerate_from 0 (signatures ds)))
+    (filter (λ x. passes x.0) (enumerate_from 0 (signatures_of ds)))
 
 -- ---- the world of a domain and a problem
 
 -- the declared names and types, as a world in which nothing is known of the first state
 abbrev pub declared_world : Domain → Problem → World
 declared_world d p = record {
-  objects = map (λ o. o.0) (declared_objects d p);
-  predicates = names_of d.predicates;
-  functions = names_of d.functions;
-  fitting = places_fitting (declared_types d) (declared_objects d p);
-  is_static = no_place_in (names_of d.predicates) (changed_predicates d p);
-  is_static_function = no_place_in (names_of d.functions) (changed_functions d);
+  objects = names_of (objects_of d p);
+  predicates = names_of (signatures_of d.predicates);
+  functions = names_of (signatures_of d.functions);
+  fitting = places_fitting (types_of d) (objects_of d p);
+  is_static = no_place_in (names_of (signatures_of d.predicates)) (changed_predicates d p);
+  is_static_function = no_place_in (names_of (signatures_of d.functions)) (changed_functions d);
   is_held = λ a. false;
   value_of = λ f. None;
   fluents = [];
@@ -107,3 +119,11 @@ world d p =
 
 abbrev pub has_value : World → GroundAtom → Bool
 has_value w f = is_some (w.value_of f)
+
+-- the places of the fluents among some that have no first value
+abbrev pub unvalued_places : World → List (ℕ × GroundAtom) → List ℕ
+unvalued_places w fs = map (λ f. f.0) (filter (λ f. not (has_value w f.1)) fs)
+
+abbrev pub no_places : List ℕ → Bool
+no_places [] = true
+no_places (p ∷ ps) = false

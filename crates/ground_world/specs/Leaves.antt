@@ -1,6 +1,6 @@
 -- Believed: the preferences of a goal and the constraints, each with its name and the variables around it; the time
 -- costs; and the metric, to be minimised.
-use Rattle.std.specs.Prelude.{ℕ, Bool, true, false, if◌then◌else◌, List, [], ◌∷◌, ◌++◌, map, Option, Some, None, codes}
+use Rattle.std.specs.Prelude.{if◌then◌else◌, List, [], ◌∷◌, ◌++◌, map, Option, Some, None, codes}
 use Rattle.std.specs.List.{flat_map}
 use Rattle.exact_lin.specs.Forms.{LinearForm}
 use Rattle.pddl_terms.specs.declared.trees.Name.{Name}
@@ -15,6 +15,7 @@ use Rattle.pddl_terms.specs.declared.trees.ConForm.TheOpen.{ConForm-F}
 use Rattle.pddl_terms.specs.declared.files.Aim.{Aim}
 use Rattle.pddl_terms.specs.declared.files.Aim.TheVariants.{Minimize, Maximize}
 use Rattle.pddl_terms.specs.declared.files.CostCurve.{CostCurve}
+use Rattle.pddl_terms.specs.declared.files.Metric.{Metric}
 use Rattle.pddl_terms.specs.declared.files.TimeCost.{TimeCost}
 use Rattle.pddl_terms.specs.declared.files.TimeCost.TheVariants as cost
 use Rattle.pddl_terms.specs.declared.files.Domain.{Domain}
@@ -22,7 +23,8 @@ use Rattle.pddl_terms.specs.declared.files.Problem.{Problem}
 use Rattle.pddl_names.specs.Declarations.{Text, with_new}
 use Rattle.ground_world.specs.World.{either, World, Env}
 use Rattle.ground_world.specs.Bindings.{nested_bindings}
-use Rattle.ground_world.specs.Expressions.{Unknowns, Reckoned, reckoned, own_unknown, unknown, form_or_zero, negative}
+use Rattle.ground_world.specs.FirstState.{unvalued_places, no_places}
+use Rattle.ground_world.specs.Expressions.{Unknowns, reckoned, mentioned, own_unknown, unknown, form_or_zero, negative}
 
 -- ---- the leaves of goals and constraints, each with the lists of variables around it, outer first
 
@@ -112,3 +114,13 @@ abbrev pub minimised : World → Domain → Problem → LinearForm
 minimised w d p = either (unknown (own_unknown w))
     (λ m. toward m.aim (form_or_zero (reckoned w (unknowns d p) [] m.expression)))
     p.metric
+
+-- The minimised form of a metric, where it is reckoned: each fluent has a first value, no divisor is 0, and each sum and
+-- product is defined.
+abbrev pub metric_value : World → Unknowns → Env → Metric → Option LinearForm
+metric_value w us env m = if no_places (unvalued_places w (mentioned w env m.expression))
+    then either None (λ f. Some (toward m.aim f)) (reckoned w us env m.expression).value else None
+
+-- The same of a problem, whose metric is the total time where it names none.
+abbrev pub minimised_value : World → Unknowns → Option Metric → Option LinearForm
+minimised_value w us metric = either (Some (unknown (own_unknown w))) (metric_value w us []) metric

@@ -7,5 +7,9 @@ pub mod Conditions
 pub mod Leaves
 pub mod Counts
 pub mod Shown
+pub mod ShownChanges
+pub mod Operations
+pub mod Readings
 pub mod Exact
 pub mod Laws
+pub mod Building

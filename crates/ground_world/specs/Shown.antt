@@ -1,5 +1,6 @@
 -- Believed: what the tables say, and what the code's bindings, variables and parts of conditions stand for.
-use Rattle.std.specs.Prelude.{ℕ, Bool, List, map, not, false, slice_get, slice_index_or, if◌then◌else◌}
+use Rattle.std.specs.Prelude.{ℕ, Bool, List, map, not, nat_eq, slice_get, slice_index_or, if◌then◌else◌}
+use Rattle.std.specs.List.{list_any}
 use Rattle.pddl_terms.specs.declared.trees.ExprTree.{ExprTree}
 use Rattle.pddl_names.specs.Declarations.{Text, among}
 use Rattle.ground_world.specs.World.{World, Env, place_in, number_in}
@@ -20,8 +21,8 @@ world_of t = record {
   predicates = t.predicates;
   functions = t.functions;
   fitting = λ s. slice_index_or t.columns (place_in t.sorts s) t.others;
-  is_static = λ p. not (slice_index_or t.changed_predicates p false);
-  is_static_function = λ f. not (slice_index_or t.changed_functions f false);
+  is_static = λ p. not (list_any (nat_eq p) t.changed_predicates);
+  is_static_function = λ f. not (list_any (nat_eq f) t.changed_functions);
   is_held = among t.held;
   value_of = λ f. slice_get t.values (number_in t.given f);
   fluents = t.fluents;

@@ -84,3 +84,13 @@ pub fn ground_fluent(
     push_arguments(&mut numbers, tables, env, fluent.terms.as_slice())?;
     Ok(numbers)
 }
+
+/// The predicate of a ground atom, or the function of a ground fluent.
+pub fn symbol(atom: &[u32]) -> u32
+    ensures { result ≡ world.symbol atom.now }
+{
+    match atom.split_first() {
+        Some((first, _)) => *first,
+        None => 0,
+    }
+}

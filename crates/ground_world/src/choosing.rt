@@ -20,15 +20,22 @@ pub struct Variable<'a> {
     pub column: &'a [u32],
 }
 
+/// The type of a group of names: nothing where it is left out.
+pub(crate) fn sort_of(group: &Group) -> &[u8]
+    ensures { result.now ≡ type_bytes group.now.of }
+{
+    match &group.of {
+        TypeName::Object => b"object",
+        TypeName::Named(name) => name.bytes.as_slice(),
+        TypeName::LeftOut(_) => b"",
+    }
+}
+
 // The objects that fit a group of variables.
 fn group_column<'a>(tables: &'a Tables, group: &Group) -> &'a [u32]
     ensures { result.now ≡ (world_of tables.now).fitting (type_bytes group.now.of) }
 {
-    match &group.of {
-        TypeName::Object => tables.column(b"object"),
-        TypeName::Named(name) => tables.column(name.bytes.as_slice()),
-        TypeName::LeftOut(_) => tables.column(b""),
-    }
+    tables.column(sort_of(group))
 }
 
 // Puts variables of one type at the end.

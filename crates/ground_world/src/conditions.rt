@@ -2,12 +2,11 @@
 
 ghost use Rattle.std.specs.Prelude.{◌≡◌, ◌≤◌, ◌++◌, map, IfOk, OnOk};
 ghost use Rattle.std.specs.List.{list_all};
-ghost use Rattle.ground_world.specs.World.{symbol};
 ghost use Rattle.ground_world.specs.Conditions.{Compares, test, negated, condition_parts, static_part_holds, side_object, equal_part};
 ghost use Rattle.ground_world.specs.Counts.{condition_count, part_limit};
 ghost use Rattle.ground_world.specs.Shown.{env_of, world_of, expression_of, part_of, parts_of, turned};
 
-use crate::binding::{Bound, bound_object, ground_atom};
+use crate::binding::{Bound, bound_object, ground_atom, symbol};
 use crate::choosing::{bound, choices_within, variables};
 use crate::parts::{CondPart, CondTest, Operand};
 use crate::tables::Tables;
@@ -164,14 +163,4 @@ pub fn static_holds(tables: &Tables, parts: &[CondPart]) -> bool
     ensures { result ≡ list_all (λ part. static_part_holds (world_of tables.now) (part_of part)) parts.now }
 {
     parts.iter().all(|part| static_part_holds(tables, part))
-}
-
-// The predicate of a ground atom.
-fn symbol(atom: &[u32]) -> u32
-    ensures { result ≡ symbol atom.now }
-{
-    match atom.split_first() {
-        Some((first, _)) => *first,
-        None => 0,
-    }
 }

@@ -1,6 +1,7 @@
 //! Laws of the definitions: each function does nothing, and its contract is the law.
 
 ghost use Rattle.ground_world.specs.Laws.{ChoicesByNumber, FilterIsNested};
+ghost use Rattle.ground_world.specs.Exact.{ReckonedIsExact};
 
 /// Bindings can be counted through: each has its number.
 pub fn choices_by_number()
@@ -10,4 +11,9 @@ pub fn choices_by_number()
 /// Bindings that pass a test can be found in nested loops, one for each variable.
 pub fn filter_is_nested()
     ensures { FilterIsNested }
+{}
+
+/// Where an expression is reckoned, its form has the exact value of the expression.
+pub fn reckoned_is_exact()
+    ensures { ReckonedIsExact }
 {}

@@ -33,20 +33,14 @@ impl Tables {
     pub fn is_static(&self, predicate: u32) -> bool
         ensures { result ≡ (world_of self.now).is_static predicate }
     {
-        match self.changed_predicates.get(predicate as usize) {
-            Some(changed) => !*changed,
-            None => true,
-        }
+        !self.changed_predicates.has(predicate)
     }
 
     /// Whether no effect changes the function.
     pub fn is_static_function(&self, function: u32) -> bool
         ensures { result ≡ (world_of self.now).is_static_function function }
     {
-        match self.changed_functions.get(function as usize) {
-            Some(changed) => !*changed,
-            None => true,
-        }
+        !self.changed_functions.has(function)
     }
 
     /// Whether a ground atom holds at first.

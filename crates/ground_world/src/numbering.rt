@@ -1,6 +1,9 @@
 //! Ground atoms and fluents that are numbered in the order in which they first came.
 
-ghost use Rattle.std.specs.Prelude.{◌≡◌, [], ◌∷◌, position, OnOk, IfSome, ◌<◌, ◌≤◌, length};
+ghost use Rattle.std.specs.Prelude.{◌≡◌, [], ◌∷◌, List, ℕ, map, position, OnOk, IfSome, ◌<◌, ◌≤◌, length};
+ghost use Rattle.std.specs.Cmp.Lexicographic.{slice_cmp};
+ghost use Rattle.std.specs.List.Sorted.{IsStrictlySortedBy};
+ghost use Rattle.std.specs.Ordering.{nat_cmp};
 ghost use Rattle.std.specs.Str.{bytes_eq};
 ghost use Rattle.std.specs.List.{list_any, position_or_len};
 ghost use Rattle.pddl_names.specs.Declarations.{with_new};
@@ -33,6 +36,29 @@ impl Numbering {
         Numbering {
             keys: IndexSet::new(alloc),
         }
+    }
+
+    /// How many entries there are.
+    pub fn len(&self) -> usize
+        ensures { result ≡ length self.now }
+    {
+        self.keys.len()
+    }
+
+    /// The entries, in their order.
+    pub fn keys(&self) -> &[Vec<u32>]
+        ensures { map (λ k. k.items) result.now ≡ self.now }
+    {
+        self.keys.as_slice()
+    }
+
+    /// Puts the entries in ascending order.
+    pub(crate) fn sort(&mut self) -> Result<(), NoMemory>
+        ensures sorted { OnOk result (IsStrictlySortedBy (slice_cmp nat_cmp) self.new) }
+        ensures members { OnOk result ((a : List ℕ) → list_any (bytes_eq a) self.new ≡ list_any (bytes_eq a) self.old) }
+    {
+        self.keys.sort()?;
+        Ok(())
     }
 
     /// Puts an entry at the end, unless it is there.

@@ -1,5 +1,5 @@
 -- Believed: what grounding answers: the ground task, or the first fault of a fixed order.
-use Rattle.std.specs.Prelude.{ℕ, ◌+◌, ◌≡◌, ◌⊎◌, Bool, true, false, not, nat_le, if◌then◌else◌, min, max, List, [], ◌∷◌, ◌++◌, map, length, Option, Some, None, Result, Ok, Err}
+use Rattle.std.specs.Prelude.{ℕ, ◌+◌, ◌≡◌, ◌⊎◌, Bool, true, false, nat_le, if◌then◌else◌, min, max, List, [], ◌∷◌, ◌++◌, map, length, Option, Some, None, Result, Ok, Err}
 use Rattle.std.specs.List.{flat_map, filter}
 use Rattle.task_types.specs.declared.constraints.TrailKind.{TrailKind}
 use Rattle.task_types.specs.declared.constraints.TrailKind.TheVariants.{Within}
@@ -9,7 +9,7 @@ use Rattle.task_types.specs.declared.parts.TaskParts.{TaskParts}
 use Rattle.pddl_terms.specs.declared.files.Domain.{Domain}
 use Rattle.pddl_terms.specs.declared.files.Problem.{Problem}
 use Rattle.ground_world.specs.World.{World, either, GroundAtom}
-use Rattle.ground_world.specs.FirstState.{has_value}
+use Rattle.ground_world.specs.FirstState.{unvalued_places}
 use Rattle.ground_world.specs.Expressions.{Reckoned, reckoned, mentioned, wide_places, zero_divisors}
 use Rattle.ground_world.specs.Conditions.{Test, tests_in, difference}
 use Rattle.ground_world.specs.Leaves.{goal_preferences, leaf_envs, unknowns}
@@ -48,7 +48,7 @@ units w d p = unit_of_tests w (flat_map tests_in (goal_parts w [] p.goal))
 
 -- the places of fluents without a value; a unit that has one reckons nothing
 abbrev pub unvalued : World → Unit → List ℕ
-unvalued w u = map (λ f. f.0) (filter (λ f. not (has_value w f.1)) u.mentions)
+unvalued w u = unvalued_places w u.mentions
 
 abbrev pub wide_in : World → Unit → List ℕ
 wide_in w u = either (wide_places (flaws_of u.reckons)) (λ p. []) (least (unvalued w u))

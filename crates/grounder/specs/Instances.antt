@@ -6,9 +6,11 @@ use Rattle.pddl_terms.specs.declared.trees.RateTree.TheVariants as rate
 use Rattle.pddl_terms.specs.declared.files.ActionDef.{ActionDef}
 use Rattle.ground_world.specs.World.{World, Env, columns, GroundAtom, ground_fluent, same_atom, variable_names}
 use Rattle.ground_world.specs.Bindings.{choices, paired}
-use Rattle.ground_world.specs.Changes.{Staged, parts_at, AtStart, AtEnd, Change, Adds, Deletes, Moves, Flows, changes}
-use Rattle.ground_world.specs.FirstState.{has_value}
-use Rattle.ground_world.specs.Expressions.{Unknowns, Reckoned, Flaw, reckoned, mentioned, wide_places, zero_divisors}
+use Rattle.ground_world.specs.declared.changes.Stage.TheVariants.{AtStart, AtEnd}
+use Rattle.ground_world.specs.Changes.{Staged, parts_at, Change, Adds, Deletes, Moves, Flows, changes}
+use Rattle.ground_world.specs.FirstState.{has_value, no_places}
+use Rattle.ground_world.specs.Expressions.{Unknowns, Reckoned, reckoned, mentioned, wide_places, zero_divisors}
+use Rattle.ground_world.specs.declared.operations.Flaw.{Flaw}
 use Rattle.ground_world.specs.Conditions.{Part, Test, tests_in, body_conditions, body_bounds, static_part_holds, difference}
 
 -- a binding of an action's parameters
@@ -94,10 +96,6 @@ is_twice (a ∷ rest) = list_any (same_atom a) rest || is_twice rest
 abbrev pub assigns_twice : World → Instance → Bool
 assigns_twice w i = is_twice (flat_map (assigned_by w (env_of i)) (parts_at AtStart (changes i.action)))
     || is_twice (flat_map (assigned_by w (env_of i)) (parts_at AtEnd (changes i.action)))
-
-abbrev pub no_places : List ℕ → Bool
-no_places [] = true
-no_places (p ∷ ps) = false
 
 unfoldable pub is_kept : World → Instance → Bool
 is_kept w i = reckons w i && no_places (zero_divisors (flaws_of (instance_reckons w i))) && not (assigns_twice w i)

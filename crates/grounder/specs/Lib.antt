@@ -2,6 +2,8 @@ pub mod Instances
 pub mod Terms
 pub mod Task
 pub mod Answer
+pub mod Accepted
+pub mod Laws
 pub mod ExampleWords
 pub mod ExampleBindings
 pub mod ExampleFacts

@@ -2,7 +2,7 @@
 use Rattle.std.specs.Prelude.{ℕ, ◌+◌, Bool, true, false, ◌&&◌, not, nat_lt, if◌then◌else◌, List, [], ◌∷◌, ◌++◌, map, length, slice_index_or, Option, Some, None, pos}
 use Rattle.std.specs.List.{flat_map, filter, enumerate_from}
 use Rattle.rational.specs.Rational.{ℚ, zeroℚ, whole, neg_ℚ}
-use Rattle.exact_lin.specs.Forms.{LinearForm, Terms, coefficient, constant_form}
+use Rattle.exact_lin.specs.Forms.{LinearForm, coefficient, constant_form}
 use Rattle.task_types.specs.Tests.{◌<?◌, ◌=?◌}
 use Rattle.task_types.specs.declared.conditions.Amount.{Amount}
 use Rattle.task_types.specs.declared.conditions.Condition.{Condition}
@@ -43,10 +43,12 @@ use Rattle.pddl_terms.specs.declared.files.Domain.{Domain}
 use Rattle.pddl_terms.specs.declared.files.Problem.{Problem}
 use Rattle.pddl_names.specs.Declarations.{Text, with_new}
 use Rattle.ground_world.specs.World.{World, Env, either, columns, GroundAtom, ground_atom, ground_fluent, number_in, symbol, arguments}
-use Rattle.ground_world.specs.Changes.{Stage, AtStart, OverAll, AtEnd, parts_at, Change, Adds, Deletes, Moves, Flows, atoms_in, changes}
+use Rattle.ground_world.specs.declared.changes.Stage.{Stage}
+use Rattle.ground_world.specs.declared.changes.Stage.TheVariants.{AtStart, OverAll, AtEnd}
+use Rattle.ground_world.specs.Changes.{parts_at, Change, Adds, Deletes, Moves, Flows, atoms_in, changes}
 use Rattle.ground_world.specs.FirstState.{all_atoms, world}
 use Rattle.ground_world.specs.Expressions.{Unknowns, own_unknown, preference_unknown, cost_unknown, reckoned, minus_one, form_or_zero, negative}
-use Rattle.ground_world.specs.Conditions.{Part, Lit, Same, Compares, body_bounds, test_forms}
+use Rattle.ground_world.specs.Conditions.{Part, Lit, Same, Compares, Test, body_bounds, test_forms}
 use Rattle.ground_world.specs.Leaves.{Leaf, Named, Cost, goal_preferences, constraints, costs, leaf_envs, unknowns, minimised}
 use Rattle.grounder.specs.Instances.{Instance, env_of, conditions_of, no_unknowns, kept}
 use Rattle.grounder.specs.Terms.{formula, formula_atoms, preference_parts, formulas_in, comparisons_in, goal_parts, goal_atoms, constraint_atoms, watched}
@@ -98,20 +100,24 @@ dynamic_literal w facts (Lit a holds) = if w.is_static (symbol a) then [] else l
 dynamic_literal w facts (Same holds) = []
 dynamic_literal w facts (Compares t) = []
 
+-- a form over the fluents alone, without the unknowns of an action or a metric
+abbrev pub over_fluents : Ground → LinearForm → LinearForm
+over_fluents g f = record { constant = f.constant; terms = filter (λ t. nat_lt t.0 (own_unknown g.world)) f.terms }
+
+-- the forms of a comparison, each to be at least 0
+abbrev pub compared : Ground → Test → List LinearForm
+compared g t = map (over_fluents g) (test_forms g.world no_unknowns t)
+
 abbrev pub forms_in : Ground → Part → List LinearForm
 forms_in g (Lit a holds) = []
 forms_in g (Same holds) = []
-forms_in g (Compares t) = test_forms g.world no_unknowns t
+forms_in g (Compares t) = compared g t
 
 -- in the goal an equality of terms that fails is the form of constant -1
 abbrev pub goal_forms_in : Ground → Part → List LinearForm
 goal_forms_in g (Lit a holds) = []
 goal_forms_in g (Same holds) = if holds then [] else (constant_form minus_one ∷ [])
-goal_forms_in g (Compares t) = test_forms g.world no_unknowns t
-
--- The terms of a form over the fluents alone, without the unknowns of an action or a metric.
-abbrev pub over_fluents : Ground → Terms → Terms
-over_fluents g ts = filter (λ t. nat_lt t.0 (own_unknown g.world)) ts
+goal_forms_in g (Compares t) = compared g t
 
 abbrev pub action_condition : Ground → List Part → Condition
 action_condition g parts = record {
@@ -125,10 +131,11 @@ goal_condition g parts = record {
   comparisons = flat_map (goal_forms_in g) parts;
 }
 
-abbrev pub amount : Ground → LinearForm → Amount
-amount g f = record {
-  form = record { constant = f.constant; terms = over_fluents g f.terms };
-  duration = coefficient f.terms (own_unknown g.world);
+-- An amount over the fluents, and the factor of the duration, which only a durative action has.
+abbrev pub amount : Ground → Bool → LinearForm → Amount
+amount g durative f = record {
+  form = over_fluents g f;
+  duration = if durative then coefficient f.terms (own_unknown g.world) else zeroℚ;
 }
 
 abbrev pub added_facts : Ground → Env → Change → List ℕ
@@ -139,25 +146,25 @@ abbrev pub deleted_facts : Ground → Env → Change → List ℕ
 deleted_facts g env (Deletes a) = fact_number g (ground_atom g.world env a) ∷ []
 deleted_facts g env _ = []
 
-abbrev pub assigned_amounts : Ground → Env → Change → List (ℕ × Amount)
-assigned_amounts g env (Moves Assign f e) =
-    (fluent_number g (ground_fluent g.world env f), amount g (form_or_zero (reckoned g.world no_unknowns env e))) ∷ []
-assigned_amounts g env _ = []
+abbrev pub assigned_amounts : Ground → Bool → Env → Change → List (ℕ × Amount)
+assigned_amounts g durative env (Moves Assign f e) =
+    (fluent_number g (ground_fluent g.world env f), amount g durative (form_or_zero (reckoned g.world no_unknowns env e))) ∷ []
+assigned_amounts g durative env _ = []
 
 -- A decrease is the increase by the negative.
-abbrev pub increased_amounts : Ground → Env → Change → List (ℕ × Amount)
-increased_amounts g env (Moves Increase f e) =
-    (fluent_number g (ground_fluent g.world env f), amount g (form_or_zero (reckoned g.world no_unknowns env e))) ∷ []
-increased_amounts g env (Moves Decrease f e) =
-    (fluent_number g (ground_fluent g.world env f), amount g (negative (form_or_zero (reckoned g.world no_unknowns env e)))) ∷ []
-increased_amounts g env _ = []
+abbrev pub increased_amounts : Ground → Bool → Env → Change → List (ℕ × Amount)
+increased_amounts g durative env (Moves Increase f e) =
+    (fluent_number g (ground_fluent g.world env f), amount g durative (form_or_zero (reckoned g.world no_unknowns env e))) ∷ []
+increased_amounts g durative env (Moves Decrease f e) =
+    (fluent_number g (ground_fluent g.world env f), amount g durative (negative (form_or_zero (reckoned g.world no_unknowns env e)))) ∷ []
+increased_amounts g durative env _ = []
 
-abbrev pub effect : Ground → Env → List Change → Effect
-effect g env cs = record {
+abbrev pub effect : Ground → Bool → Env → List Change → Effect
+effect g durative env cs = record {
   adds = flat_map (added_facts g env) cs;
   deletes = flat_map (deleted_facts g env) cs;
-  assigns = flat_map (assigned_amounts g env) cs;
-  increases = flat_map (increased_amounts g env) cs;
+  assigns = flat_map (assigned_amounts g durative env) cs;
+  increases = flat_map (increased_amounts g durative env) cs;
 }
 
 abbrev pub rate_value : Ground → Env → RateTree → ℚ
@@ -188,7 +195,7 @@ abbrev pub bounds : Ground → Instance → List Bound
 bounds g i = flat_map (λ l. map (λ k. record {
   at_least = k;
   at_end = l.at_end;
-  form = form_or_zero (reckoned g.world no_unknowns (env_of i) l.expression);
+  form = over_fluents g (form_or_zero (reckoned g.world no_unknowns (env_of i) l.expression));
 }) (bound_kinds l.order)) (body_bounds i.action.body)
 
 abbrev pub is_durative : ActionBody → Bool
@@ -200,7 +207,7 @@ snap_of g a i k stage rates = record {
   kind = k;
   action = Some a;
   condition = action_condition g (parts_at stage (conditions_of g.world i));
-  effect = effect g (env_of i) (parts_at stage (changes i.action));
+  effect = effect g (is_durative i.action.body) (env_of i) (parts_at stage (changes i.action));
   rates = rates;
 }
 
@@ -281,7 +288,7 @@ abbrev pub metric : Ground → Metric
 metric g = record {
   constant = g.cost.constant;
   last = coefficient g.cost.terms (own_unknown g.world);
-  fluents = record { constant = zeroℚ; terms = over_fluents g g.cost.terms };
+  fluents = record { constant = zeroℚ; terms = (over_fluents g g.cost).terms };
 }
 
 abbrev pub preference_weight : Ground → Text → ℚ
@@ -298,7 +305,7 @@ all_of fs = fact.And fs
 abbrev pub goal_soft : Ground → Leaf (Named SoftTree) → Env → Soft
 goal_soft g l env = soft.Goal
     (all_of (map (formula g.world (fact_number g) env) (flat_map formulas_in (preference_parts g.world l.leaf.body))))
-    (flat_map (λ x. flat_map (test_forms g.world no_unknowns) (comparisons_in g.world env x)) (preference_parts g.world l.leaf.body))
+    (flat_map (λ x. flat_map (compared g) (comparisons_in g.world env x)) (preference_parts g.world l.leaf.body))
     (preference_weight g l.leaf.name)
 
 abbrev pub trail_of : Ground → Trajectory → Env → Trail

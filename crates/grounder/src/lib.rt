@@ -3,5 +3,6 @@
 
 pub mod examples;
 mod faults;
+pub mod laws;
 
 pub use faults::{GroundFault, LimitName};
