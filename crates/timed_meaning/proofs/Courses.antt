@@ -1,6 +1,7 @@
 -- A course gone along place by place.
 use Rattle.std.proofs.Common.{◌≡◌, refl, sym, subst, ℕ, zero, suc, ◌+◌, ◌-◌, ◌<◌, List, [], ◌∷◌, ◌++◌, inl, inr, arith}
-use Rattle.std.specs.Prelude.{Err}
+use Rattle.std.specs.Prelude.{Result, Err}
+use Rattle.timed_meaning.specs.declared.states.State.{State}
 use Rattle.task_types.specs.State as meaning
 use Rattle.timed_meaning.specs.declared.faults.MeaningFault.{MeaningFault}
 use Rattle.timed_meaning.specs.declared.faults.MeaningFault.TheVariants.{Wide, Memory}
@@ -9,7 +10,8 @@ use Rattle.exact_lin.specs.Reckoning.{wide_limit}
 use Rattle.exact_lin.specs.Reckonings.{Reckoning, AllDefined, IsFirstUndefined}
 use Rattle.task_types.specs.declared.parts.TaskParts.{TaskParts}
 use Rattle.task_types.specs.Plan.{Plan}
-use Rattle.task_types.specs.Reckoned.{course_before, course_after, effects_at, move_at}
+use Rattle.rational.specs.Rational.{ℚ}
+use Rattle.task_types.specs.Reckoned.{course_before, course_after, course_reaching, effects_at, move_at, move_to}
 use Rattle.task_types.proofs.Places.{map-numbers-more}
 use Rattle.timed_meaning.specs.Answers.{Defined}
 
@@ -49,3 +51,12 @@ module _ (task : TaskParts) (plan : Plan) where
   pub passed-on : (k : ℕ) (f : MeaningFault) (meant : meaning.State) → Reaches (Err f) task plan k → Gives (Err f) task (course_after task plan k) meant
   passed-on k (Wide j) meant u = first-put (course_before task plan k) k (effects_at task plan k) j u
   passed-on k Memory meant u = tt
+
+  -- and one on the way to a time after them
+  pub passed-past : (k : ℕ) (to : ℚ) (f : MeaningFault) (meant : meaning.State) → Reaches (Err f) task plan k → Gives (Err f) task (course_reaching task plan (suc k) to) meant
+  passed-past k to (Wide j) meant u = first-put (course_before task plan k) k (effects_at task plan k ++ move_to task plan k to) j u
+  passed-past k to Memory meant u = tt
+
+  -- the same answer for an equal course and state
+  pub gives-as : (r : Result State MeaningFault) (ps qs : Course) (m n : meaning.State) → ps ≡ qs → m ≡ n → Gives r task ps m → Gives r task qs n
+  gives-as r ps qs m n e f g = subst (λ (cs : Course). Gives r task cs n) e (subst (λ (s : meaning.State). Gives r task ps s) f g)

@@ -17,7 +17,7 @@ use Rattle.task_types.proofs.Everyone.{all_map, all_both, filter_same, filter_no
 use Rattle.task_types.proofs.Reordering.{filter_reordered}
 use Rattle.timed_meaning.specs.declared.placing.PlacedLine.{PlacedLine}
 use Rattle.timed_meaning.specs.Owned.{placed, placed_lines, lines_of}
-use Rattle.timed_meaning.specs.Places.{has_begun, lasts_to, begun_by, AreRunning}
+use Rattle.timed_meaning.specs.Places.{has_begun, lasts_to, runs, begun_by, AreRunning}
 use Rattle.timed_meaning.proofs.Running.{Rises, running-is}
 
 pub lines-placed : (n : ℕ) (plan : Plan) → lines_of (map placed (enumerate_from n plan)) ≡ plan
@@ -165,3 +165,16 @@ module _ (plan : Plan) (from to : ℚ) (lines : List PlacedLine) (started : ℕ)
 
   pub running-places : IsPermutation (placed_lines plan) lines → IsPermutation (filter (run_between from to) (placed_lines plan)) running
   running-places p = subst (IsPermutation (filter (run_between from to) (placed_lines plan))) (sym (running-filtered from to lines started running ends r)) (filter_reordered (run_between from to) (placed_lines plan) lines p)
+
+-- the lines that are found to run between two times
+pub found-lines : (plan : Plan) (from to : ℚ) (lines : List PlacedLine) → AllByRecursion (λ p. p.end ≡ end_of p.line) lines → lines_of lines ≡ by_start plan → lines_of (filter (runs from to) lines) ≡ by_start (filter (runs_between from to) plan)
+found-lines plan from to lines ends e = ap lines_of (filter_same (runs from to) (run_between from to) lines (all_map (λ p. p.end ≡ end_of p.line) (λ p. runs from to p ≡ run_between from to p) lines (λ p q. ap (λ t. (p.line.at ≤? from) && (to ≤? t)) q) ends))
+    ∙ lines-filtered (runs_between from to) lines ∙ ap (filter (runs_between from to)) e ∙ sym (running-is (runs_between from to) plan)
+
+pub found-known : (P : PlanLine → Type 0) (from to : ℚ) (lines : List PlacedLine) → AllByRecursion P (lines_of lines) → AllByRecursion P (lines_of (filter (runs from to) lines))
+found-known P from to [] h = tt
+found-known P from to (x ∷ xs) h = go (runs from to x) (found-known P from to xs h.1)
+  where
+    go : (b : Bool) → AllByRecursion P (lines_of (filter (runs from to) xs)) → AllByRecursion P (lines_of (cond b (x ∷ filter (runs from to) xs) (filter (runs from to) xs)))
+    go true r = (h.0, r)
+    go false r = r

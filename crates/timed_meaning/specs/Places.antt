@@ -1,5 +1,5 @@
 -- Believed: which of the lines by their starts run from one happening to the next; a reader needs only what the calls of a sweep say where this holds.
-use Rattle.std.specs.Prelude.{ℕ, ◌≡◌, Bool, true, false, if◌then◌else◌, List, [], ◌∷◌, take, drop}
+use Rattle.std.specs.Prelude.{ℕ, ◌≡◌, Bool, true, false, ◌&&◌, if◌then◌else◌, List, [], ◌∷◌, take, drop}
 use Rattle.std.specs.List.{AllByRecursion, filter}
 use Rattle.rational.specs.Rational.{ℚ}
 use Rattle.task_types.specs.Tests.{◌≤?◌}
@@ -12,6 +12,10 @@ has_begun by p = p.line.at ≤? by
 -- a line lasts to a time where it ends no earlier
 abbrev pub lasts_to : ℚ → PlacedLine → Bool
 lasts_to to p = to ≤? p.end
+
+-- a line runs from one time to a later one where it has begun by the one and lasts to the other
+abbrev pub runs : ℚ → ℚ → PlacedLine → Bool
+runs from to p = has_begun from p && lasts_to to p
 
 -- the lines at the front of a list that have begun by a time
 abbrev pub begun_by : ℚ → List PlacedLine → List PlacedLine

@@ -6,7 +6,7 @@ ghost use Rattle.task_types.specs.Tests.{◌≤?◌};
 ghost use Rattle.task_types.specs.Reckoned.{by_start};
 ghost use Rattle.timed_meaning.specs.TimedPlans.{EndIsDefined};
 ghost use Rattle.timed_meaning.specs.Owned.{placed, placed_lines, lines_of};
-ghost use Rattle.timed_meaning.specs.Places.{has_begun, lasts_to, begun_by};
+ghost use Rattle.timed_meaning.specs.Places.{has_begun, lasts_to, begun_by, runs};
 
 use crate::listing::end_of;
 use exact_lin::{Fraction, NoMemory, Scalar};
@@ -154,4 +154,34 @@ pub fn follow_lines(
     keep_lasting(running, to);
     let more = push_begun(running, &lines[started..], from, to)?;
     Ok(started + more)
+}
+
+fn push_running(
+    out: &mut Vec<PlacedLine>,
+    placed: &PlacedLine,
+    from: Fraction,
+    to: Fraction,
+) -> Result<(), NoMemory>
+    ensures { OnOk result (out.new.items ≡ out.old.items ++ filter (runs from to) (placed.now ∷ [])) }
+{
+    if has_begun(placed, from) {
+        return push_lasting(out, placed, to);
+    }
+    Ok(())
+}
+
+/// Finds the lines that run from one time to a later one.
+pub fn find_running(
+    out: &mut Vec<PlacedLine>,
+    lines: &[PlacedLine],
+    from: Fraction,
+    to: Fraction,
+) -> Result<(), NoMemory>
+    ensures { OnOk result (out.new.items ≡ filter (runs from to) lines.now) }
+{
+    out.clear();
+    for placed in lines {
+        push_running(out, placed, from, to)?;
+    }
+    Ok(())
 }

@@ -1,19 +1,19 @@
 //! A sweep along the happenings of a plan, with the state changed in place.
 
-ghost use Rattle.std.specs.Prelude.{◌≡◌, ◌++◌, ◌<◌, [], suc, IsTrue, OnOk, IfOk, IsPermutation, ◌↔◌};
+ghost use Rattle.std.specs.Prelude.{◌≡◌, ◌++◌, ◌<◌, [], ℕ, suc, IsTrue, OnOk, IfOk, IsPermutation, ◌↔◌};
 ghost use Rattle.std.specs.List.{filter};
 ghost use Rattle.task_types.specs.declared.parts.TaskParts.{TaskParts};
 ghost use Rattle.task_types.specs.Plan.{Plan};
-ghost use Rattle.task_types.specs.Course.{count, time_of, steps_at, runs_between, state_before, state_after};
-ghost use Rattle.task_types.specs.Reckoned.{by_start, effects_at, move_at};
+ghost use Rattle.task_types.specs.Course.{count, time_of, steps_at, runs_between, reached, state_before, state_after};
+ghost use Rattle.task_types.specs.Reckoned.{by_start, effects_at, move_at, move_to};
 ghost use Rattle.timed_meaning.specs.TimedPlans.{IsBuiltFor};
 ghost use Rattle.timed_meaning.specs.Answers.{Tells, Facts, Fluents};
 ghost use Rattle.timed_meaning.specs.Owned.{owned_steps, steps_of, placed_lines, lines_of};
 ghost use Rattle.timed_meaning.specs.Sorts.{NeverFall};
-ghost use Rattle.timed_meaning.specs.Standings.{shown};
+ghost use Rattle.timed_meaning.specs.Standings.{shown, IsKept};
 
 use crate::agendas::Agenda;
-use crate::placing::PlacedLine;
+use crate::placing::{PlacedLine, find_running};
 use crate::plans::TimedPlan;
 use crate::standings::Standing;
 use crate::states::State;
@@ -72,6 +72,29 @@ impl Sweep {
         let to = self.agenda.next_time();
         let running = self.agenda.running.as_slice();
         self.standing.advance(task.parts(), running, from, to)
+    }
+
+    /// Moves the state on to a time after the happening, with no happening between; where the sweep stands, and the
+    /// lines that it tells, are of no more use then.
+    pub fn move_to(&mut self, task: &Task, to: Fraction) -> Result<(), FormFault>
+        requires { (plan : Plan) × IsAfter task.now.parts plan self.old
+            × (self.old.agenda.place < count task.now.parts plan) }
+        ensures { (plan : Plan) (k : ℕ) → IsAfter task.now.parts plan self.old
+            → self.old.agenda.place ≡ k → k < count task.now.parts plan
+            → Tells result (move_to task.now.parts plan k to)
+            (λ _. IsKept task.now.parts self.new.standing
+            × (shown self.new.standing ≡ reached task.now.parts plan (suc k) to)) }
+    {
+        let from = self.agenda.time();
+        let lines = self.agenda.lines.as_slice();
+        match find_running(&mut self.agenda.running, lines, from, to) {
+            Ok(()) => {
+                let parts = task.parts();
+                let running = self.agenda.running.as_slice();
+                self.standing.advance(parts, running, from, to)
+            }
+            Err(_) => Err(FormFault::Memory),
+        }
     }
 
     /// Turns to the next happening, to which the state has been moved.

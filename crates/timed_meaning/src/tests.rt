@@ -6,7 +6,9 @@ ghost use Rattle.task_types.specs.Course.{count};
 ghost use Rattle.timed_meaning.specs.ExampleTask.{going, going_once, start_or_end};
 ghost use Rattle.timed_meaning.specs.TimedPlans.{IsBuiltFor};
 
-use crate::{MeaningFault, State, Sweep, TimedPlan, happenings, state_after, state_before};
+use crate::{
+    MeaningFault, State, Sweep, TimedPlan, happenings, state_after, state_at, state_before,
+};
 use exact_lin::{ActionId, Form, Fraction, Id, NoMemory, Scalar, SnapId};
 use sqlite_items::Items;
 use std::alloc::Global;
@@ -168,6 +170,15 @@ fn has_states(alloc: Global, task: &Task, plan: &TimedPlan) -> bool
     is_empty(state_before(alloc, task, plan, 1)) && is_empty(state_after(alloc, task, plan, 0))
 }
 
+// Whether there are states before the plan begins, while its line runs and after it has ended.
+fn has_states_between(alloc: Global, task: &Task, plan: &TimedPlan) -> bool
+    requires { IsBuiltFor task.now.parts plan.now }
+{
+    is_empty(state_at(alloc, task, plan, Fraction::of_int(0)))
+        && is_empty(state_at(alloc, task, plan, Fraction::of_int(2)))
+        && is_empty(state_at(alloc, task, plan, Fraction::of_int(4)))
+}
+
 // Whether a sweep reaches the second happening and no third.
 fn is_swept(alloc: Global, task: &Task, plan: &TimedPlan) -> bool
     requires built { IsBuiltFor task.now.parts plan.now }
@@ -192,6 +203,7 @@ fn goes(alloc: Global, task: &Task) -> bool
             plan.lines().len() == 1
                 && has_times(alloc, task, &plan)
                 && has_states(alloc, task, &plan)
+                && has_states_between(alloc, task, &plan)
                 && is_swept(alloc, task, &plan)
         }
         Err(_) => false,
