@@ -1,3 +1,12 @@
 pub mod Scans
 pub mod Scanning
 pub mod WordsIn
+pub mod Positions
+pub mod Filling
+pub mod AnyLeft
+pub mod NameLists
+pub mod Instances
+pub mod Found
+pub mod LineDuties
+pub mod Progress
+pub mod Trip

@@ -1,5 +1,5 @@
 -- The words that are met token by token are those that the tokens are made of.
-use Rattle.std.proofs.Common.{◌≡◌, refl, sym, ap, subst, ◌∙◌, ℕ, Bool, true, false, cond, ◌&&◌, List, [], ◌∷◌, ◌++◌, nat_eq, Option, Some, None, arith}
+use Rattle.std.proofs.Common.{◌≡◌, refl, sym, ap, subst, ◌∙◌, ℕ, Bool, true, false, cond, List, [], ◌∷◌, ◌++◌, nat_eq, Option, Some, None, arith}
 use Rattle.std.specs.Prelude.{option_to_list, IsTrue}
 use Rattle.std.specs.List.{list_all}
 use Rattle.std.specs.Option.{option_map, option_and_then, unwrap_or}
@@ -10,17 +10,17 @@ use Rattle.basics.proofs.Lists.{all_append, all_left, all_right}
 use Rattle.plan_files.specs.Tokens.{is_run, tokens}
 use Rattle.plan_files.specs.PlanWords.{PlanWords, bracket_of, tokens_of, words, Says}
 use Rattle.plan_files.specs.WordsSeen.{runs_in_front}
-use Rattle.plan_files.specs.WordScan.{run_first, behind_token, mark_first, behind_runs, at_end, bracketed, bracket_at, bracket_in, with_name, with_start, words_in}
+use Rattle.plan_files.specs.WordScan.{run_first, mark_first, behind_runs, at_end, bracket_at, bracket_in, with_name, with_start, words_in}
 
 abbrev pub Tokens : Type 0
 Tokens = List (List ℕ)
 
 -- where a step after a step gives something, both do
-then_some : {A B : Type 0} (o : Option A) (f : A → Option B) (y : B) → option_and_then f o ≡ Some y → (x : A) × ((o ≡ Some x) × (f x ≡ Some y))
+pub then_some : {A B : Type 0} (o : Option A) (f : A → Option B) (y : B) → option_and_then f o ≡ Some y → (x : A) × ((o ≡ Some x) × (f x ≡ Some y))
 then_some None f y e = cc
 then_some (Some x) f y e = (x, (refl, e))
 
-map_some : {A B : Type 0} (o : Option A) (f : A → B) (y : B) → option_map f o ≡ Some y → (x : A) × ((o ≡ Some x) × (f x ≡ y))
+pub map_some : {A B : Type 0} (o : Option A) (f : A → B) (y : B) → option_map f o ≡ Some y → (x : A) × ((o ≡ Some x) × (f x ≡ y))
 map_some None f y e = cc
 map_some (Some x) f y e = (x, (refl, cc))
 
@@ -32,7 +32,7 @@ some_pair a c b d e =
     let same = ap (λ (o : Option (List ℕ × Tokens)). unwrap_or o (pair a b)) e in
     (ap (λ (p : List ℕ × Tokens). p.0) same, ap (λ (p : List ℕ × Tokens). p.1) same)
 
-run_first-is : (ts : Tokens) (t : List ℕ) (rest : Tokens) → run_first ts ≡ Some (t, rest) → (is_run t ≡ true) × (ts ≡ t ∷ rest)
+pub run_first-is : (ts : Tokens) (t : List ℕ) (rest : Tokens) → run_first ts ≡ Some (t, rest) → (is_run t ≡ true) × (ts ≡ t ∷ rest)
 run_first-is [] t rest e = cc
 run_first-is (u ∷ us) t rest e = go (is_run u) refl e
   where
@@ -40,7 +40,7 @@ run_first-is (u ∷ us) t rest e = go (is_run u) refl e
     go true f h = let p = some_pair u t us rest h in (ap is_run (sym p.0) ∙ f, ap (λ v. v ∷ us) p.0 ∙ ap (λ vs. t ∷ vs) p.1)
     go false f h = cc
 
-mark_first-is : (mark : ℕ) (ts rest : Tokens) → mark_first mark ts ≡ Some rest → ts ≡ (mark ∷ []) ∷ rest
+pub mark_first-is : (mark : ℕ) (ts rest : Tokens) → mark_first mark ts ≡ Some rest → ts ≡ (mark ∷ []) ∷ rest
 mark_first-is mark [] rest e = cc
 mark_first-is mark ([] ∷ ts) rest e = cc
 mark_first-is mark ((b ∷ []) ∷ ts) rest e = go (nat_eq b mark) refl e
@@ -50,7 +50,7 @@ mark_first-is mark ((b ∷ []) ∷ ts) rest e = go (nat_eq b mark) refl e
     go false f h = cc
 mark_first-is mark ((b ∷ c ∷ bs) ∷ ts) rest e = cc
 
-runs-split : (ts : Tokens) → ts ≡ runs_in_front ts ++ behind_runs ts
+pub runs-split : (ts : Tokens) → ts ≡ runs_in_front ts ++ behind_runs ts
 runs-split [] = refl
 runs-split (t ∷ ts) = go (is_run t) (runs-split ts)
   where
@@ -58,7 +58,7 @@ runs-split (t ∷ ts) = go (is_run t) (runs-split ts)
     go true more = ap (λ (us : Tokens). t ∷ us) more
     go false more = refl
 
-runs-all : (ts : Tokens) → list_all is_run (runs_in_front ts) ≡ true
+pub runs-all : (ts : Tokens) → list_all is_run (runs_in_front ts) ≡ true
 runs-all [] = refl
 runs-all (t ∷ ts) = go (is_run t) refl (runs-all ts)
   where
@@ -66,7 +66,7 @@ runs-all (t ∷ ts) = go (is_run t) refl (runs-all ts)
     go true e more = and_from _ _ e more
     go false e more = refl
 
-at_end-is : {A : Type 0} (x y : A) (ts : Tokens) → at_end x ts ≡ Some y → (ts ≡ []) × (x ≡ y)
+pub at_end-is : {A : Type 0} (x y : A) (ts : Tokens) → at_end x ts ≡ Some y → (ts ≡ []) × (x ≡ y)
 at_end-is x y [] e = (refl, ap (λ o. unwrap_or o x) e)
 at_end-is x y (t ∷ ts) e = cc
 
@@ -113,7 +113,7 @@ words-sound ts w e =
     subst (λ (v : PlanWords). IsTrue (list_all is_run (words v)) × (ts ≡ tokens_of v)) f.1.1 (runs, spelled)
 
 -- ---- and the other way round
-runs-pass : (args rest : Tokens) → list_all is_run args ≡ true → (runs_in_front (args ++ (41 ∷ []) ∷ rest) ≡ args) × (behind_runs (args ++ (41 ∷ []) ∷ rest) ≡ (41 ∷ []) ∷ rest)
+pub runs-pass : (args rest : Tokens) → list_all is_run args ≡ true → (runs_in_front (args ++ (41 ∷ []) ∷ rest) ≡ args) × (behind_runs (args ++ (41 ∷ []) ∷ rest) ≡ (41 ∷ []) ∷ rest)
 runs-pass [] rest e = (refl, refl)
 runs-pass (t ∷ ts) rest e =
     let p : (is_run t ≡ true) × (list_all is_run ts ≡ true) = and_parts (is_run t) (list_all is_run ts) e in

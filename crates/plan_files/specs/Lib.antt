@@ -5,4 +5,12 @@ pub mod Written
 pub mod PlanWords
 pub mod WordsSeen
 pub mod WordScan
+pub mod Names
+pub mod PlanFiles
 pub mod Laws
+pub mod Finding
+pub mod Entries
+pub mod Places
+pub mod Known
+pub mod LineParts
+pub mod ExampleTask

@@ -1,6 +1,5 @@
 -- Private: what a scan of a line finds next.
-use Rattle.std.specs.Prelude.{ℕ, Bool, ◌==◌, List, [], ◌∷◌, if◌then◌else◌, Option, Some, None, option_map, option_and_then}
-use Rattle.std.specs.List.{list_all}
+use Rattle.std.specs.Prelude.{ℕ, ◌==◌, List, [], ◌∷◌, if◌then◌else◌, Option, Some, None}
 use Rattle.basics.specs.Texts.{is_blank}
 use Rattle.plan_files.specs.Tokens.{is_run_byte}
 

@@ -1,12 +1,19 @@
-//! The lines of plan files, and the words of a plan line.
+//! Plan files: their lines, the words of a line, and the plan that they stand for in a task.
 #![tactic(auto)]
 
+mod faults;
 pub mod laws;
 mod lines;
+mod names;
+mod places;
+mod plan_lines;
+mod plans;
 mod scan;
 #[cfg(test)]
 mod tests;
 mod words;
 
+pub use faults::{LineFault, LineKind};
 pub use lines::{Written, next_written};
+pub use plans::read_plan;
 pub use words::{PlanText, read_words};

@@ -1,5 +1,7 @@
 //! Texts cut by hand.
 
+mod trips;
+
 use crate::{next_written, read_words};
 
 // How many words the line of a plan has a bracket for: 1, 0, or 2 where it is no plan line.

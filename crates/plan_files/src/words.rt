@@ -19,23 +19,23 @@ pub struct PlanText<'a> {
     pub duration: Option<&'a [u8]>,
 }
 
-// The rest of the line behind its first token, where that is this mark.
-fn after_mark(mark: u8, line: &[u8]) -> Option<&[u8]>
+/// The rest of the line behind its first token, where that is this mark.
+pub(crate) fn after_mark(mark: u8, line: &[u8]) -> Option<&[u8]>
     requires { is_mark mark ≡ true }
     ensures { option_map (λ rest. tokens rest.now) result ≡ mark_first mark (tokens line.now) }
 {
     behind_mark(mark, line)
 }
 
-// The first token of the line, where that is a run, and the rest of the line.
-fn first_run(line: &[u8]) -> Option<(&[u8], &[u8])>
+/// The first token of the line, where that is a run, and the rest of the line.
+pub(crate) fn first_run(line: &[u8]) -> Option<(&[u8], &[u8])>
     ensures { option_map (λ found. (found.0.now, tokens found.1.now)) result ≡ run_first (tokens line.now) }
 {
     next_run(line)
 }
 
-// The rest of the line behind the runs in front.
-fn after_runs(line: &[u8]) -> &[u8]
+/// The rest of the line behind the runs in front.
+pub(crate) fn after_runs(line: &[u8]) -> &[u8]
     ensures { tokens result.now ≡ behind_runs (tokens line.now) }
 {
     let mut rest = line;
@@ -45,8 +45,8 @@ fn after_runs(line: &[u8]) -> &[u8]
     rest
 }
 
-// Whether no token is left.
-fn is_at_end(line: &[u8]) -> bool
+/// Whether no token is left.
+pub(crate) fn is_at_end(line: &[u8]) -> bool
     ensures { result ≡ is_none_left (tokens line.now) }
 {
     are_blanks(line)

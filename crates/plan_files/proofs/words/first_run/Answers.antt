@@ -1,4 +1,4 @@
-use Rattle.std.proofs.Common.{List, ℕ, ◌∙◌, ap, Bor}
+use Rattle.std.proofs.Common.{◌∙◌, ap}
 use Rattle.std.specs.Option.{option_map}
 use Rattle.plan_files.proofs.Scanning.{next_run-is, map_map, seen, bytes_of}
 use Rattle.plan_files.proofs.words.first_run.Goals as goal
