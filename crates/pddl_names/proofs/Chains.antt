@@ -1,7 +1,8 @@
 -- The way up from a type, step by step.
-use Rattle.std.proofs.Common.{◌≡◌, refl, ap, ℕ, zero, suc, ◌+◌, Bool, true, false, ◌||◌, List, [], ◌∷◌, Option, None, Some, ◌∙◌, sym, if◌then◌else◌, arith}
+use Rattle.std.proofs.Common.{◌≡◌, ap, ℕ, zero, suc, ◌+◌, true, false, ◌||◌, List, [], None, Some, ◌∙◌, sym, arith}
 use Rattle.std.specs.Str.{bytes_eq}
 use Rattle.std.specs.Option.{option_map_or}
+use Rattle.basics.proofs.Bools.{or_false}
 use Rattle.pddl_names.specs.Declarations.{Text, Typed, among}
 use Rattle.pddl_names.specs.Fitting.{above, chain}
 
@@ -14,10 +15,6 @@ module _ (types : List Typed) (u : Text) where
   pub chain-last : (n : ℕ) (t : Text) → n ≡ 0 → among (chain types n t) u ≡ bytes_eq u t
   unfolding chain
   chain-last zero t e = or_false (bytes_eq u t)
-    where
-      or_false : (b : Bool) → (b || false) ≡ b
-      or_false true = refl
-      or_false false = refl
   chain-last (suc n) t e = absurd (omega arith)
 
   pub chain-up : (n m : ℕ) (t s : Text) → n ≡ m + 1 → bytes_eq u t ≡ false → Some s ≡ above types t → among (chain types n t) u ≡ among (chain types m s) u

@@ -1,5 +1,5 @@
 -- Names that stood before, along a list and along parts of it, and the first declarations of names.
-use Rattle.std.proofs.Common.{◌≡◌, refl, sym, ap, ◌∙◌, ℕ, ◌+◌, ◌≤◌, ◌<◌, List, [], ◌∷◌, ◌++◌, map, Option, if◌then◌else◌, length, take, get_or, append-nil, append_assoc}
+use Rattle.std.proofs.Common.{◌≡◌, refl, sym, ap, ◌∙◌, ℕ, ◌+◌, ◌<◌, List, [], ◌∷◌, ◌++◌, map, Option, if◌then◌else◌, length, take, get_or, append-nil, append_assoc}
 use Rattle.std.specs.List.{flat_map}
 use Rattle.std.proofs.lemmas.List.{take_more, map-append}
 use Rattle.std.proofs.lemmas.List.Concat.{flat_map-append}
@@ -58,7 +58,3 @@ doubled-loop f before now later xs i x found next other h e d n k m =
 pub each_alone : {X : Type 0} (xs : List X) → flat_map (λ x. x ∷ []) xs ≡ xs
 each_alone [] = refl
 each_alone (x ∷ xs) = ap (λ l. x ∷ l) (each_alone xs)
-
-pub each_as : {X Y : Type 0} (f : X → Y) (xs : List X) → flat_map (λ x. f x ∷ []) xs ≡ map f xs
-each_as f [] = refl
-each_as f (x ∷ xs) = ap (λ l. f x ∷ l) (each_as f xs)

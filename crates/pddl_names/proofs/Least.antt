@@ -1,11 +1,14 @@
 -- The offence of least place, of parts of a list.
-use Rattle.std.proofs.Common.{◌≡◌, refl, sym, ap, ◌∙◌, ℕ, ◌+◌, ◌≤◌, ◌<◌, Bool, true, false, List, [], ◌∷◌, ◌++◌, map, Option, Some, None, if◌then◌else◌, arith, length, zero, nat_le, append-nil, take, get_or}
+use Rattle.std.proofs.Common.{◌≡◌, refl, sym, ap, ◌∙◌, ℕ, ◌+◌, ◌<◌, Bool, true, false, List, [], ◌∷◌, ◌++◌, Option, Some, None, if◌then◌else◌, arith, length, nat_le, append-nil, take, get_or}
 use Rattle.std.specs.List.{flat_map}
 use Rattle.std.proofs.lemmas.List.{take_more}
 use Rattle.std.proofs.lemmas.List.Concat.{flat_map-append}
 use Rattle.std.proofs.lemmas.Bool.Decides.{nat_tests}
 use Rattle.pddl_names.specs.declared.offences.Offence.{Offence}
+use Rattle.pddl_names.specs.declared.offences.Phase.{Phase}
+use Rattle.pddl_names.specs.declared.offences.Phase.TheVariants as phase
 use Rattle.pddl_names.specs.Offences.{earlier, least}
+use Rattle.pddl_names.specs.Calls.{in_names}
 
 pub earlier-none : (a : Option Offence) → earlier a None ≡ a
 earlier-none None = refl
@@ -58,3 +61,18 @@ pub least-loop : {A : Type 0} (f : A → List Offence) (xs : List A) (i : ℕ) (
     → i < length xs → x ≡ get_or xs i x → found ≡ least (flat_map f (take i xs)) → next ≡ earlier found other → other ≡ least (f x) → next ≡ least (flat_map f (take (i + 1) xs))
 least-loop f xs i x found next other h e j n k =
     least-more f (take i xs) (take (i + 1) xs) x found next (take_more xs i x h ∙ ap (λ y. take i xs ++ y ∷ []) (sym e)) j (n ∙ ap (earlier found) k)
+
+-- what is asked of names alone
+module _ (p : Phase) (xs : List Offence) where
+  pub least-named : (r : Option Offence) → p ≡ phase.Names → r ≡ least xs → r ≡ least (in_names p xs)
+  least-named r e h = h ∙ ap (λ q. least (in_names q xs)) (sym e)
+
+  pub least-unnamed : p ≡ phase.Types → ◌≡◌ {A = Option Offence} None (least (in_names p xs))
+  least-unnamed e = ap (λ q. least (in_names q xs)) (sym e)
+
+module _ (p : Phase) (xs ys : List Offence) where
+  pub both-named : (own twice r : Option Offence) → p ≡ phase.Names → own ≡ least xs → twice ≡ least ys → r ≡ earlier own twice → r ≡ least (xs ++ in_names p ys)
+  both-named own twice r e h k n = n ∙ least-both own twice xs (in_names p ys) h (least-named p ys twice e k)
+
+  pub own-unnamed : (own : Option Offence) → p ≡ phase.Types → own ≡ least xs → own ≡ least (xs ++ in_names p ys)
+  own-unnamed own e h = h ∙ ap least (sym (append-nil xs)) ∙ ap (λ q. least (xs ++ in_names q ys)) (sym e)

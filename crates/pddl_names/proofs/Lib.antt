@@ -1,10 +1,12 @@
 pub mod Calling
 pub mod Chains
 pub mod Doubling
+pub mod Firsts
 pub mod Least
+pub mod Noting
 pub mod Numbered
 pub mod Tabled
 pub mod WalkSteps
-pub mod Firsts
 pub mod Orders
 pub mod Ways
+pub mod Examples

@@ -1,7 +1,8 @@
 -- What each walk over a tree finds at each variant: one step of its fold. Made by a script from the enums.
-use Rattle.std.proofs.Common.{◌≡◌, refl, sym, ap, ◌∙◌, ℕ, ◌+◌, ◌≤◌, List, [], ◌∷◌, ◌++◌, map, Option, None, take, length}
+use Rattle.std.proofs.Common.{◌≡◌, sym, ap, ◌∙◌, ℕ, ◌≤◌, List, [], ◌++◌, Option, None, take, length}
 use Rattle.std.specs.List.{flat_map}
 use Rattle.std.proofs.lemmas.List.{take_all}
+use Rattle.std.proofs.lemmas.List.Folds.{flat_map-map}
 use Rattle.rational.specs.Rational.{ℚ}
 use Rattle.pddl_terms.specs.declared.trees.ExprTree.{ExprTree, fold-ExprTree, fold-roll-ExprTree}
 use Rattle.pddl_terms.specs.declared.trees.ExprTree.TheOpen.{ExprTree-F}
@@ -52,14 +53,6 @@ use Rattle.pddl_names.specs.Calls.{undeclared, in_names, variables_offences, bin
 use Rattle.pddl_names.specs.Walks.{equal_offences, trajectory_offences, called_atom_offences, called_fluent_offences, rate_offences, expression_layer, expression_offences, duration_layer, duration_offences, condition_layer, condition_offences, formula_layer, formula_offences, constraint_layer, constraint_offences, effect_layer, effect_offences, timed_effect_layer, timed_effect_offences, timed_condition_layer, timed_condition_offences, soft_layer, soft_offences, goal_layer, goal_offences}
 use Rattle.pddl_names.proofs.Least.{least-both}
 
-joined : {A : Type 0} (f : A → List Offence) (xs : List A) → flat_map (λ part. part) (map f xs) ≡ flat_map f xs
-joined f [] = refl
-joined f (x ∷ xs) = ap (λ l. f x ++ l) (joined f xs)
-
-joined_in : {A : Type 0} (f : A → List Typed → List Offence) (scope : List Typed) (xs : List A) → flat_map (λ part. part scope) (map f xs) ≡ flat_map (λ x. f x scope) xs
-joined_in f scope [] = refl
-joined_in f scope (x ∷ xs) = ap (λ l. f x scope ++ l) (joined_in f scope xs)
-
 -- expression_offences
 module _ (p : Phase) (w : Tables) (scope : List Typed) where
   is-expression-Number : (a0 : ℕ) (a1 : ℚ) → expression_offences p w scope (expr.Number a0 a1) ≡ []
@@ -85,17 +78,17 @@ module _ (p : Phase) (w : Tables) (scope : List Typed) where
 
   is-expression-Sum : (a0 : ℕ) (a1 : List ExprTree) → expression_offences p w scope (expr.Sum a0 a1) ≡ flat_map (expression_offences p w scope) a1
   unfolding expression_offences
-  is-expression-Sum a0 a1 = ap (λ t. fold-ExprTree (List Offence) (expression_layer p w scope) t) (sym (expr.rolls-Sum a0 a1)) ∙ fold-roll-ExprTree (List Offence) (expression_layer p w scope) (ExprTree-F.Sum a0 a1) ∙ joined (fold-ExprTree (List Offence) (expression_layer p w scope)) a1
+  is-expression-Sum a0 a1 = ap (λ t. fold-ExprTree (List Offence) (expression_layer p w scope) t) (sym (expr.rolls-Sum a0 a1)) ∙ fold-roll-ExprTree (List Offence) (expression_layer p w scope) (ExprTree-F.Sum a0 a1) ∙ flat_map-map (λ (part : List Offence). part) (fold-ExprTree (List Offence) (expression_layer p w scope)) a1
 
-  pub expression-Sum : {tree : ExprTree} {a0 : ℕ} {a1 : List ExprTree} {xs : List ExprTree} {n : ℕ} {r : Option Offence} → tree ≡ expr.Sum a0 a1 → xs ≡ a1 → length xs ≤ n → r ≡ least (flat_map (expression_offences p w scope) (take n xs)) → r ≡ least (expression_offences p w scope tree)
-  expression-Sum {tree} {a0} {a1} {xs} {n} {r} e f l h = h ∙ ap (λ t. least (flat_map (expression_offences p w scope) t)) (take_all n xs l ∙ f) ∙ sym (ap (λ t. least (expression_offences p w scope t)) e ∙ ap least (is-expression-Sum a0 a1))
+  pub expression-Sum : {tree : ExprTree} {a0 : ℕ} {a1 : List ExprTree} {xs : List ExprTree} {r : Option Offence} → tree ≡ expr.Sum a0 a1 → xs ≡ a1 → r ≡ least (flat_map (expression_offences p w scope) xs) → r ≡ least (expression_offences p w scope tree)
+  expression-Sum {tree} {a0} {a1} {xs} {r} e f h = h ∙ ap (λ t. least (flat_map (expression_offences p w scope) t)) f ∙ sym (ap (λ t. least (expression_offences p w scope t)) e ∙ ap least (is-expression-Sum a0 a1))
 
   is-expression-Product : (a0 : ℕ) (a1 : List ExprTree) → expression_offences p w scope (expr.Product a0 a1) ≡ flat_map (expression_offences p w scope) a1
   unfolding expression_offences
-  is-expression-Product a0 a1 = ap (λ t. fold-ExprTree (List Offence) (expression_layer p w scope) t) (sym (expr.rolls-Product a0 a1)) ∙ fold-roll-ExprTree (List Offence) (expression_layer p w scope) (ExprTree-F.Product a0 a1) ∙ joined (fold-ExprTree (List Offence) (expression_layer p w scope)) a1
+  is-expression-Product a0 a1 = ap (λ t. fold-ExprTree (List Offence) (expression_layer p w scope) t) (sym (expr.rolls-Product a0 a1)) ∙ fold-roll-ExprTree (List Offence) (expression_layer p w scope) (ExprTree-F.Product a0 a1) ∙ flat_map-map (λ (part : List Offence). part) (fold-ExprTree (List Offence) (expression_layer p w scope)) a1
 
-  pub expression-Product : {tree : ExprTree} {a0 : ℕ} {a1 : List ExprTree} {xs : List ExprTree} {n : ℕ} {r : Option Offence} → tree ≡ expr.Product a0 a1 → xs ≡ a1 → length xs ≤ n → r ≡ least (flat_map (expression_offences p w scope) (take n xs)) → r ≡ least (expression_offences p w scope tree)
-  expression-Product {tree} {a0} {a1} {xs} {n} {r} e f l h = h ∙ ap (λ t. least (flat_map (expression_offences p w scope) t)) (take_all n xs l ∙ f) ∙ sym (ap (λ t. least (expression_offences p w scope t)) e ∙ ap least (is-expression-Product a0 a1))
+  pub expression-Product : {tree : ExprTree} {a0 : ℕ} {a1 : List ExprTree} {xs : List ExprTree} {r : Option Offence} → tree ≡ expr.Product a0 a1 → xs ≡ a1 → r ≡ least (flat_map (expression_offences p w scope) xs) → r ≡ least (expression_offences p w scope tree)
+  expression-Product {tree} {a0} {a1} {xs} {r} e f h = h ∙ ap (λ t. least (flat_map (expression_offences p w scope) t)) f ∙ sym (ap (λ t. least (expression_offences p w scope t)) e ∙ ap least (is-expression-Product a0 a1))
 
   is-expression-Negative : (a0 : ℕ) (a1 : ExprTree) → expression_offences p w scope (expr.Negative a0 a1) ≡ expression_offences p w scope a1
   unfolding expression_offences
@@ -150,7 +143,7 @@ module _ (p : Phase) (w : Tables) (scope : List Typed) where
 module _ (p : Phase) (w : Tables) (scope : List Typed) where
   is-duration-And : (a0 : ℕ) (a1 : List DurTree) → duration_offences p w scope (dur.And a0 a1) ≡ flat_map (duration_offences p w scope) a1
   unfolding duration_offences
-  is-duration-And a0 a1 = ap (λ t. fold-DurTree (List Offence) (duration_layer p w scope) t) (sym (dur.rolls-And a0 a1)) ∙ fold-roll-DurTree (List Offence) (duration_layer p w scope) (DurTree-F.And a0 a1) ∙ joined (fold-DurTree (List Offence) (duration_layer p w scope)) a1
+  is-duration-And a0 a1 = ap (λ t. fold-DurTree (List Offence) (duration_layer p w scope) t) (sym (dur.rolls-And a0 a1)) ∙ fold-roll-DurTree (List Offence) (duration_layer p w scope) (DurTree-F.And a0 a1) ∙ flat_map-map (λ (part : List Offence). part) (fold-DurTree (List Offence) (duration_layer p w scope)) a1
 
   pub duration-And : {tree : DurTree} {a0 : ℕ} {a1 : List DurTree} {xs : List DurTree} {n : ℕ} {r : Option Offence} → tree ≡ dur.And a0 a1 → xs ≡ a1 → length xs ≤ n → r ≡ least (flat_map (duration_offences p w scope) (take n xs)) → r ≡ least (duration_offences p w scope tree)
   duration-And {tree} {a0} {a1} {xs} {n} {r} e f l h = h ∙ ap (λ t. least (flat_map (duration_offences p w scope) t)) (take_all n xs l ∙ f) ∙ sym (ap (λ t. least (duration_offences p w scope t)) e ∙ ap least (is-duration-And a0 a1))
@@ -194,7 +187,7 @@ module _ (p : Phase) (w : Tables) (scope : List Typed) where
 
   is-condition-And : (a0 : ℕ) (a1 : List CondTree) → condition_offences p w scope (cond.And a0 a1) ≡ flat_map (condition_offences p w scope) a1
   unfolding condition_offences
-  is-condition-And a0 a1 = ap (λ t. fold-CondTree (List Typed → List Offence) (condition_layer p w) t scope) (sym (cond.rolls-And a0 a1)) ∙ ap (λ f. f scope) (fold-roll-CondTree (List Typed → List Offence) (condition_layer p w) (CondTree-F.And a0 a1)) ∙ joined_in (fold-CondTree (List Typed → List Offence) (condition_layer p w)) scope a1
+  is-condition-And a0 a1 = ap (λ t. fold-CondTree (List Typed → List Offence) (condition_layer p w) t scope) (sym (cond.rolls-And a0 a1)) ∙ ap (λ f. f scope) (fold-roll-CondTree (List Typed → List Offence) (condition_layer p w) (CondTree-F.And a0 a1)) ∙ flat_map-map (λ (part : List Typed → List Offence). part scope) (fold-CondTree (List Typed → List Offence) (condition_layer p w)) a1
 
   pub condition-And : {tree : CondTree} {a0 : ℕ} {a1 : List CondTree} {xs : List CondTree} {n : ℕ} {r : Option Offence} → tree ≡ cond.And a0 a1 → xs ≡ a1 → length xs ≤ n → r ≡ least (flat_map (condition_offences p w scope) (take n xs)) → r ≡ least (condition_offences p w scope tree)
   condition-And {tree} {a0} {a1} {xs} {n} {r} e f l h = h ∙ ap (λ t. least (flat_map (condition_offences p w scope) t)) (take_all n xs l ∙ f) ∙ sym (ap (λ t. least (condition_offences p w scope t)) e ∙ ap least (is-condition-And a0 a1))
@@ -266,17 +259,17 @@ module _ (p : Phase) (w : Tables) (scope : List Typed) where
 
   is-formula-And : (a0 : ℕ) (a1 : List FactForm) → formula_offences p w scope (form.And a0 a1) ≡ flat_map (formula_offences p w scope) a1
   unfolding formula_offences
-  is-formula-And a0 a1 = ap (λ t. fold-FactForm (List Typed → List Offence) (formula_layer p w) t scope) (sym (form.rolls-And a0 a1)) ∙ ap (λ f. f scope) (fold-roll-FactForm (List Typed → List Offence) (formula_layer p w) (FactForm-F.And a0 a1)) ∙ joined_in (fold-FactForm (List Typed → List Offence) (formula_layer p w)) scope a1
+  is-formula-And a0 a1 = ap (λ t. fold-FactForm (List Typed → List Offence) (formula_layer p w) t scope) (sym (form.rolls-And a0 a1)) ∙ ap (λ f. f scope) (fold-roll-FactForm (List Typed → List Offence) (formula_layer p w) (FactForm-F.And a0 a1)) ∙ flat_map-map (λ (part : List Typed → List Offence). part scope) (fold-FactForm (List Typed → List Offence) (formula_layer p w)) a1
 
-  pub formula-And : {tree : FactForm} {a0 : ℕ} {a1 : List FactForm} {xs : List FactForm} {n : ℕ} {r : Option Offence} → tree ≡ form.And a0 a1 → xs ≡ a1 → length xs ≤ n → r ≡ least (flat_map (formula_offences p w scope) (take n xs)) → r ≡ least (formula_offences p w scope tree)
-  formula-And {tree} {a0} {a1} {xs} {n} {r} e f l h = h ∙ ap (λ t. least (flat_map (formula_offences p w scope) t)) (take_all n xs l ∙ f) ∙ sym (ap (λ t. least (formula_offences p w scope t)) e ∙ ap least (is-formula-And a0 a1))
+  pub formula-And : {tree : FactForm} {a0 : ℕ} {a1 : List FactForm} {xs : List FactForm} {r : Option Offence} → tree ≡ form.And a0 a1 → xs ≡ a1 → r ≡ least (flat_map (formula_offences p w scope) xs) → r ≡ least (formula_offences p w scope tree)
+  formula-And {tree} {a0} {a1} {xs} {r} e f h = h ∙ ap (λ t. least (flat_map (formula_offences p w scope) t)) f ∙ sym (ap (λ t. least (formula_offences p w scope t)) e ∙ ap least (is-formula-And a0 a1))
 
   is-formula-Or : (a0 : ℕ) (a1 : List FactForm) → formula_offences p w scope (form.Or a0 a1) ≡ flat_map (formula_offences p w scope) a1
   unfolding formula_offences
-  is-formula-Or a0 a1 = ap (λ t. fold-FactForm (List Typed → List Offence) (formula_layer p w) t scope) (sym (form.rolls-Or a0 a1)) ∙ ap (λ f. f scope) (fold-roll-FactForm (List Typed → List Offence) (formula_layer p w) (FactForm-F.Or a0 a1)) ∙ joined_in (fold-FactForm (List Typed → List Offence) (formula_layer p w)) scope a1
+  is-formula-Or a0 a1 = ap (λ t. fold-FactForm (List Typed → List Offence) (formula_layer p w) t scope) (sym (form.rolls-Or a0 a1)) ∙ ap (λ f. f scope) (fold-roll-FactForm (List Typed → List Offence) (formula_layer p w) (FactForm-F.Or a0 a1)) ∙ flat_map-map (λ (part : List Typed → List Offence). part scope) (fold-FactForm (List Typed → List Offence) (formula_layer p w)) a1
 
-  pub formula-Or : {tree : FactForm} {a0 : ℕ} {a1 : List FactForm} {xs : List FactForm} {n : ℕ} {r : Option Offence} → tree ≡ form.Or a0 a1 → xs ≡ a1 → length xs ≤ n → r ≡ least (flat_map (formula_offences p w scope) (take n xs)) → r ≡ least (formula_offences p w scope tree)
-  formula-Or {tree} {a0} {a1} {xs} {n} {r} e f l h = h ∙ ap (λ t. least (flat_map (formula_offences p w scope) t)) (take_all n xs l ∙ f) ∙ sym (ap (λ t. least (formula_offences p w scope t)) e ∙ ap least (is-formula-Or a0 a1))
+  pub formula-Or : {tree : FactForm} {a0 : ℕ} {a1 : List FactForm} {xs : List FactForm} {r : Option Offence} → tree ≡ form.Or a0 a1 → xs ≡ a1 → r ≡ least (flat_map (formula_offences p w scope) xs) → r ≡ least (formula_offences p w scope tree)
+  formula-Or {tree} {a0} {a1} {xs} {r} e f h = h ∙ ap (λ t. least (flat_map (formula_offences p w scope) t)) f ∙ sym (ap (λ t. least (formula_offences p w scope t)) e ∙ ap least (is-formula-Or a0 a1))
 
   is-formula-Not : (a0 : ℕ) (a1 : FactForm) → formula_offences p w scope (form.Not a0 a1) ≡ formula_offences p w scope a1
   unfolding formula_offences
@@ -317,7 +310,7 @@ module _ (p : Phase) (w : Tables) (scope : List Typed) where
 module _ (p : Phase) (w : Tables) (scope : List Typed) where
   is-constraint-And : (a0 : ℕ) (a1 : List ConForm) → constraint_offences p w scope (con.And a0 a1) ≡ flat_map (constraint_offences p w scope) a1
   unfolding constraint_offences
-  is-constraint-And a0 a1 = ap (λ t. fold-ConForm (List Typed → List Offence) (constraint_layer p w) t scope) (sym (con.rolls-And a0 a1)) ∙ ap (λ f. f scope) (fold-roll-ConForm (List Typed → List Offence) (constraint_layer p w) (ConForm-F.And a0 a1)) ∙ joined_in (fold-ConForm (List Typed → List Offence) (constraint_layer p w)) scope a1
+  is-constraint-And a0 a1 = ap (λ t. fold-ConForm (List Typed → List Offence) (constraint_layer p w) t scope) (sym (con.rolls-And a0 a1)) ∙ ap (λ f. f scope) (fold-roll-ConForm (List Typed → List Offence) (constraint_layer p w) (ConForm-F.And a0 a1)) ∙ flat_map-map (λ (part : List Typed → List Offence). part scope) (fold-ConForm (List Typed → List Offence) (constraint_layer p w)) a1
 
   pub constraint-And : {tree : ConForm} {a0 : ℕ} {a1 : List ConForm} {xs : List ConForm} {n : ℕ} {r : Option Offence} → tree ≡ con.And a0 a1 → xs ≡ a1 → length xs ≤ n → r ≡ least (flat_map (constraint_offences p w scope) (take n xs)) → r ≡ least (constraint_offences p w scope tree)
   constraint-And {tree} {a0} {a1} {xs} {n} {r} e f l h = h ∙ ap (λ t. least (flat_map (constraint_offences p w scope) t)) (take_all n xs l ∙ f) ∙ sym (ap (λ t. least (constraint_offences p w scope t)) e ∙ ap least (is-constraint-And a0 a1))
@@ -354,7 +347,7 @@ module _ (p : Phase) (w : Tables) (scope : List Typed) where
 
   is-effect-And : (a0 : ℕ) (a1 : List EffTree) → effect_offences p w scope (eff.And a0 a1) ≡ flat_map (effect_offences p w scope) a1
   unfolding effect_offences
-  is-effect-And a0 a1 = ap (λ t. fold-EffTree (List Offence) (effect_layer p w scope) t) (sym (eff.rolls-And a0 a1)) ∙ fold-roll-EffTree (List Offence) (effect_layer p w scope) (EffTree-F.And a0 a1) ∙ joined (fold-EffTree (List Offence) (effect_layer p w scope)) a1
+  is-effect-And a0 a1 = ap (λ t. fold-EffTree (List Offence) (effect_layer p w scope) t) (sym (eff.rolls-And a0 a1)) ∙ fold-roll-EffTree (List Offence) (effect_layer p w scope) (EffTree-F.And a0 a1) ∙ flat_map-map (λ (part : List Offence). part) (fold-EffTree (List Offence) (effect_layer p w scope)) a1
 
   pub effect-And : {tree : EffTree} {a0 : ℕ} {a1 : List EffTree} {xs : List EffTree} {n : ℕ} {r : Option Offence} → tree ≡ eff.And a0 a1 → xs ≡ a1 → length xs ≤ n → r ≡ least (flat_map (effect_offences p w scope) (take n xs)) → r ≡ least (effect_offences p w scope tree)
   effect-And {tree} {a0} {a1} {xs} {n} {r} e f l h = h ∙ ap (λ t. least (flat_map (effect_offences p w scope) t)) (take_all n xs l ∙ f) ∙ sym (ap (λ t. least (effect_offences p w scope t)) e ∙ ap least (is-effect-And a0 a1))
@@ -398,7 +391,7 @@ module _ (p : Phase) (w : Tables) (scope : List Typed) where
 
   is-timed_effect-And : (a0 : ℕ) (a1 : List TimedEff) → timed_effect_offences p w scope (teff.And a0 a1) ≡ flat_map (timed_effect_offences p w scope) a1
   unfolding timed_effect_offences
-  is-timed_effect-And a0 a1 = ap (λ t. fold-TimedEff (List Offence) (timed_effect_layer p w scope) t) (sym (teff.rolls-And a0 a1)) ∙ fold-roll-TimedEff (List Offence) (timed_effect_layer p w scope) (TimedEff-F.And a0 a1) ∙ joined (fold-TimedEff (List Offence) (timed_effect_layer p w scope)) a1
+  is-timed_effect-And a0 a1 = ap (λ t. fold-TimedEff (List Offence) (timed_effect_layer p w scope) t) (sym (teff.rolls-And a0 a1)) ∙ fold-roll-TimedEff (List Offence) (timed_effect_layer p w scope) (TimedEff-F.And a0 a1) ∙ flat_map-map (λ (part : List Offence). part) (fold-TimedEff (List Offence) (timed_effect_layer p w scope)) a1
 
   pub timed_effect-And : {tree : TimedEff} {a0 : ℕ} {a1 : List TimedEff} {xs : List TimedEff} {n : ℕ} {r : Option Offence} → tree ≡ teff.And a0 a1 → xs ≡ a1 → length xs ≤ n → r ≡ least (flat_map (timed_effect_offences p w scope) (take n xs)) → r ≡ least (timed_effect_offences p w scope tree)
   timed_effect-And {tree} {a0} {a1} {xs} {n} {r} e f l h = h ∙ ap (λ t. least (flat_map (timed_effect_offences p w scope) t)) (take_all n xs l ∙ f) ∙ sym (ap (λ t. least (timed_effect_offences p w scope t)) e ∙ ap least (is-timed_effect-And a0 a1))
@@ -442,7 +435,7 @@ module _ (p : Phase) (w : Tables) (scope : List Typed) where
 
   is-timed_condition-And : (a0 : ℕ) (a1 : List TimedCond) → timed_condition_offences p w scope (tcond.And a0 a1) ≡ flat_map (timed_condition_offences p w scope) a1
   unfolding timed_condition_offences
-  is-timed_condition-And a0 a1 = ap (λ t. fold-TimedCond (List Offence) (timed_condition_layer p w scope) t) (sym (tcond.rolls-And a0 a1)) ∙ fold-roll-TimedCond (List Offence) (timed_condition_layer p w scope) (TimedCond-F.And a0 a1) ∙ joined (fold-TimedCond (List Offence) (timed_condition_layer p w scope)) a1
+  is-timed_condition-And a0 a1 = ap (λ t. fold-TimedCond (List Offence) (timed_condition_layer p w scope) t) (sym (tcond.rolls-And a0 a1)) ∙ fold-roll-TimedCond (List Offence) (timed_condition_layer p w scope) (TimedCond-F.And a0 a1) ∙ flat_map-map (λ (part : List Offence). part) (fold-TimedCond (List Offence) (timed_condition_layer p w scope)) a1
 
   pub timed_condition-And : {tree : TimedCond} {a0 : ℕ} {a1 : List TimedCond} {xs : List TimedCond} {n : ℕ} {r : Option Offence} → tree ≡ tcond.And a0 a1 → xs ≡ a1 → length xs ≤ n → r ≡ least (flat_map (timed_condition_offences p w scope) (take n xs)) → r ≡ least (timed_condition_offences p w scope tree)
   timed_condition-And {tree} {a0} {a1} {xs} {n} {r} e f l h = h ∙ ap (λ t. least (flat_map (timed_condition_offences p w scope) t)) (take_all n xs l ∙ f) ∙ sym (ap (λ t. least (timed_condition_offences p w scope t)) e ∙ ap least (is-timed_condition-And a0 a1))
@@ -500,7 +493,7 @@ module _ (p : Phase) (w : Tables) (scope : List Typed) where
 
   is-soft-And : (a0 : ℕ) (a1 : List SoftTree) → soft_offences p w scope (soft.And a0 a1) ≡ flat_map (soft_offences p w scope) a1
   unfolding soft_offences
-  is-soft-And a0 a1 = ap (λ t. fold-SoftTree (List Offence) (soft_layer p w scope) t) (sym (soft.rolls-And a0 a1)) ∙ fold-roll-SoftTree (List Offence) (soft_layer p w scope) (SoftTree-F.And a0 a1) ∙ joined (fold-SoftTree (List Offence) (soft_layer p w scope)) a1
+  is-soft-And a0 a1 = ap (λ t. fold-SoftTree (List Offence) (soft_layer p w scope) t) (sym (soft.rolls-And a0 a1)) ∙ fold-roll-SoftTree (List Offence) (soft_layer p w scope) (SoftTree-F.And a0 a1) ∙ flat_map-map (λ (part : List Offence). part) (fold-SoftTree (List Offence) (soft_layer p w scope)) a1
 
   pub soft-And : {tree : SoftTree} {a0 : ℕ} {a1 : List SoftTree} {xs : List SoftTree} {n : ℕ} {r : Option Offence} → tree ≡ soft.And a0 a1 → xs ≡ a1 → length xs ≤ n → r ≡ least (flat_map (soft_offences p w scope) (take n xs)) → r ≡ least (soft_offences p w scope tree)
   soft-And {tree} {a0} {a1} {xs} {n} {r} e f l h = h ∙ ap (λ t. least (flat_map (soft_offences p w scope) t)) (take_all n xs l ∙ f) ∙ sym (ap (λ t. least (soft_offences p w scope t)) e ∙ ap least (is-soft-And a0 a1))
@@ -516,7 +509,7 @@ module _ (p : Phase) (w : Tables) (scope : List Typed) where
 
   is-goal-And : (a0 : ℕ) (a1 : List GoalTree) → goal_offences p w scope (goal.And a0 a1) ≡ flat_map (goal_offences p w scope) a1
   unfolding goal_offences
-  is-goal-And a0 a1 = ap (λ t. fold-GoalTree (List Typed → List Offence) (goal_layer p w) t scope) (sym (goal.rolls-And a0 a1)) ∙ ap (λ f. f scope) (fold-roll-GoalTree (List Typed → List Offence) (goal_layer p w) (GoalTree-F.And a0 a1)) ∙ joined_in (fold-GoalTree (List Typed → List Offence) (goal_layer p w)) scope a1
+  is-goal-And a0 a1 = ap (λ t. fold-GoalTree (List Typed → List Offence) (goal_layer p w) t scope) (sym (goal.rolls-And a0 a1)) ∙ ap (λ f. f scope) (fold-roll-GoalTree (List Typed → List Offence) (goal_layer p w) (GoalTree-F.And a0 a1)) ∙ flat_map-map (λ (part : List Typed → List Offence). part scope) (fold-GoalTree (List Typed → List Offence) (goal_layer p w)) a1
 
   pub goal-And : {tree : GoalTree} {a0 : ℕ} {a1 : List GoalTree} {xs : List GoalTree} {n : ℕ} {r : Option Offence} → tree ≡ goal.And a0 a1 → xs ≡ a1 → length xs ≤ n → r ≡ least (flat_map (goal_offences p w scope) (take n xs)) → r ≡ least (goal_offences p w scope tree)
   goal-And {tree} {a0} {a1} {xs} {n} {r} e f l h = h ∙ ap (λ t. least (flat_map (goal_offences p w scope) t)) (take_all n xs l ∙ f) ∙ sym (ap (λ t. least (goal_offences p w scope t)) e ∙ ap least (is-goal-And a0 a1))

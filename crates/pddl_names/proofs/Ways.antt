@@ -1,8 +1,9 @@
 -- Ways up from a type to another: no way needs more steps than there are types, also where the types form a ring.
-use Rattle.std.proofs.Common.{◌≡◌, refl, sym, ap, subst, ◌∙◌, ℕ, zero, suc, ◌+◌, ◌≤◌, ◌<◌, Bool, true, false, true≢false, not, ◌||◌, ◌⊎◌, inl, inr, ⊎_elim, List, [], ◌∷◌, length, filter, cond, Option, None, Some, if◌then◌else◌, arith}
+use Rattle.std.proofs.Common.{◌≡◌, refl, sym, ap, subst, ◌∙◌, ℕ, zero, suc, ◌+◌, ◌≤◌, Bool, true, false, true≢false, ◌||◌, ◌⊎◌, inl, inr, List, [], ◌∷◌, length, Option, None, Some, if◌then◌else◌, arith}
 use Rattle.std.specs.Str.{bytes_eq}
 use Rattle.std.specs.Option.{option_map_or}
 use Rattle.std.proofs.lemmas.Slice.Eq.{bytes_eq-Decides}
+use Rattle.basics.proofs.Bools.{or_true, or_false}
 use Rattle.pddl_names.specs.Declarations.{Text, Typed, object_word, value_of, among}
 use Rattle.pddl_names.specs.Fitting.{above, chain}
 
@@ -146,16 +147,8 @@ chain_way_by types n t u false e (Some s) a later h = let w = later s h in (suc 
 -- what stands in the chain is reached
 pub chain-way : (types : List Typed) (n : ℕ) (t u : Text) → among (chain types n t) u ≡ true → Short types n t u
 unfolding chain
-chain-way types zero t u h = (0, (omega arith, sym (same_text u t (or_false (bytes_eq u t) h))))
-  where
-    or_false : (b : Bool) → (b || false) ≡ true → b ≡ true
-    or_false true h = refl
-    or_false false h = h
+chain-way types zero t u h = (0, (omega arith, sym (same_text u t (sym (or_false (bytes_eq u t)) ∙ h))))
 chain-way types (suc n) t u h = chain_way_by types n t u (bytes_eq u t) refl (above types t) refl (λ s k. chain-way types n s u k) h
-
-or_true : (b : Bool) → (b || true) ≡ true
-or_true true = refl
-or_true false = refl
 
 -- and what is reached stands in it
 pub way-chain : (types : List Typed) (n k : ℕ) (t u : Text) → k ≤ n → Way types k t u → among (chain types n t) u ≡ true

@@ -1,5 +1,5 @@
--- Private: what is wrong with a name, a type, a list of variables, a term, and a predicate or function with its terms.
-use Rattle.std.specs.Prelude.{ℕ, Bool, ◌||◌, if◌then◌else◌, nat_eq, List, [], ◌∷◌, ◌++◌, map, length, is_some, unwrap_or}
+-- Believed: what is wrong with a name, a type, a list of variables, a term, and a predicate or function with its terms.
+use Rattle.std.specs.Prelude.{ℕ, Bool, ◌||◌, if◌then◌else◌, nat_eq, List, [], ◌∷◌, ◌++◌, length, is_some, unwrap_or}
 use Rattle.std.specs.List.{flat_map}
 use Rattle.std.specs.Option.{option_map_or}
 use Rattle.std.specs.Str.{bytes_eq}

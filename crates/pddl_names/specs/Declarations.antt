@@ -43,7 +43,7 @@ typed groups = flat_map typed_of groups
 
 -- the types of the names of a typed list
 abbrev pub sorts_of : List Group → List Text
-sorts_of groups = map (λ t. t.1) (typed groups)
+sorts_of groups = flat_map (λ g. map (λ n. type_bytes g.of) g.names) groups
 
 -- the types that are declared, each with the type above it
 abbrev pub declared_types : Domain → List Typed

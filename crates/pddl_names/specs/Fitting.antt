@@ -1,5 +1,5 @@
 -- Believed: which type is below which. Types form a graph with one way up, which may lead in a ring.
-use Rattle.std.specs.Prelude.{ℕ, zero, suc, Bool, ◌||◌, if◌then◌else◌, nat_eq, List, [], ◌∷◌, length, Option, Some, None}
+use Rattle.std.specs.Prelude.{ℕ, zero, suc, Bool, ◌||◌, if◌then◌else◌, nat_eq, List, [], ◌∷◌, length, Option, None}
 use Rattle.std.specs.Option.{option_map_or}
 use Rattle.std.specs.Str.{bytes_eq}
 use Rattle.pddl_names.specs.Declarations.{Text, Typed, object_word, value_of, among}

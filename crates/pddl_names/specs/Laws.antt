@@ -1,5 +1,5 @@
 -- Believed: what follows from the definition of which type fits which, and of the first offence.
-use Rattle.std.specs.Prelude.{◌≡◌, ℕ, ◌≤◌, ◌<◌, Bool, true, false, List, [], ◌∷◌, ◌++◌, All, Option, Some, None, ◌↔◌}
+use Rattle.std.specs.Prelude.{◌≡◌, ◌≤◌, ◌<◌, true, false, List, [], ◌∷◌, ◌++◌, All, Some, None, ◌↔◌}
 use Rattle.pddl_names.specs.declared.offences.Offence.{Offence}
 use Rattle.pddl_names.specs.Declarations.{Text, Typed}
 use Rattle.pddl_names.specs.Fitting.{is_nothing, fits}

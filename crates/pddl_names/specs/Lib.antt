@@ -5,4 +5,6 @@ pub mod Fitting
 pub mod Offences
 pub mod Scopes
 pub mod Walks
+pub mod Files
 pub mod Laws
+pub mod Examples

@@ -1,5 +1,5 @@
 -- Believed: what is wrong at places of a text, and which of it comes first.
-use Rattle.std.specs.Prelude.{ℕ, Bool, if◌then◌else◌, nat_le, List, [], ◌∷◌, Option, Some, None}
+use Rattle.std.specs.Prelude.{ℕ, if◌then◌else◌, nat_le, List, [], ◌∷◌, Option, Some, None}
 use Rattle.pddl_terms.specs.declared.faults.Kind.{Kind}
 use Rattle.pddl_names.specs.declared.offences.Offence.{Offence}
 

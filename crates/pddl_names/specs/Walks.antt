@@ -1,7 +1,6 @@
--- Private: what is wrong in expressions, conditions, formulas, constraints, effects and goals.
-use Rattle.std.specs.Prelude.{ℕ, if◌then◌else◌, List, [], ◌∷◌, ◌++◌}
+-- Believed: what is wrong in expressions, conditions, formulas, constraints, effects and goals.
+use Rattle.std.specs.Prelude.{if◌then◌else◌, List, [], ◌++◌}
 use Rattle.std.specs.List.{flat_map}
-use Rattle.pddl_terms.specs.declared.trees.Name.{Name}
 use Rattle.pddl_terms.specs.declared.trees.Side.{Side}
 use Rattle.pddl_terms.specs.declared.trees.Side.TheVariants as side
 use Rattle.pddl_terms.specs.declared.trees.Call.{Call}

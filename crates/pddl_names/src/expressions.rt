@@ -1,6 +1,7 @@
 //! What is wrong in expressions and durations, and in the sides of an `=`.
 
 ghost use Rattle.std.specs.Prelude.{◌≡◌};
+ghost use Rattle.std.specs.List.{flat_map};
 ghost use Rattle.pddl_names.specs.Offences.{least};
 ghost use Rattle.pddl_names.specs.Scopes.{variables_of};
 ghost use Rattle.pddl_names.specs.Walks.{expression_offences, duration_offences};
@@ -12,6 +13,7 @@ use crate::scope::Scope;
 use pddl_terms::{DurTree, ExprTree};
 
 /// The first offence in an expression.
+#[cycle(expressions)]
 pub(crate) fn first_in_expression(
     phase: Phase,
     tables: &Tables,
@@ -24,21 +26,9 @@ pub(crate) fn first_in_expression(
         ExprTree::Number(_, _) => None,
         ExprTree::Fluent(fluent) => first_in_fluent(phase, tables, scope, fluent),
         ExprTree::Duration(_) => None,
-        ExprTree::Sum(_, parts) => {
-            let mut found = None;
-            for part in parts.as_slice() {
-                let other = first_in_expression(phase, tables, scope, part);
-                found = earlier(found, other);
-            }
-            found
-        }
+        ExprTree::Sum(_, parts) => first_in_expressions(phase, tables, scope, parts.as_slice()),
         ExprTree::Product(_, factors) => {
-            let mut found = None;
-            for factor in factors.as_slice() {
-                let other = first_in_expression(phase, tables, scope, factor);
-                found = earlier(found, other);
-            }
-            found
+            first_in_expressions(phase, tables, scope, factors.as_slice())
         }
         ExprTree::Negative(_, part) => first_in_expression(phase, tables, scope, part.get()),
         ExprTree::Difference(_, left, right) => {
@@ -64,6 +54,23 @@ pub(crate) fn first_in_expression(
             name,
         ),
     }
+}
+
+#[cycle(expressions)]
+fn first_in_expressions(
+    phase: Phase,
+    tables: &Tables,
+    scope: &Scope,
+    parts: &[ExprTree],
+) -> Option<Offence>
+    ensures { result ≡ least (flat_map (expression_offences phase tables.now (variables_of scope.now)) parts.now) }
+{
+    let mut found = None;
+    for part in parts {
+        let other = first_in_expression(phase, tables, scope, part);
+        found = earlier(found, other);
+    }
+    found
 }
 
 /// The first offence in the bounds of a duration.

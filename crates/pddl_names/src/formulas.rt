@@ -1,6 +1,7 @@
 //! What is wrong in formulas over facts.
 
 ghost use Rattle.std.specs.Prelude.{◌≡◌, IfOk};
+ghost use Rattle.std.specs.List.{flat_map};
 ghost use Rattle.pddl_names.specs.Offences.{least};
 ghost use Rattle.pddl_names.specs.Scopes.{variables_of};
 ghost use Rattle.pddl_names.specs.Walks.{formula_offences};
@@ -16,6 +17,7 @@ use pddl_terms::FactForm;
 use std::alloc::Global;
 
 /// The first offence in a formula over facts.
+#[cycle(formulas)]
 pub(crate) fn first_in_formula(
     alloc: Global,
     phase: Phase,
@@ -30,20 +32,10 @@ pub(crate) fn first_in_formula(
         FactForm::Atom(atom) => Ok(first_in_atom(phase, tables, scope, atom)),
         FactForm::Equal(_, left, right) => Ok(first_in_equal(phase, tables, scope, left, right)),
         FactForm::And(_, parts) => {
-            let mut found = None;
-            for part in parts.as_slice() {
-                let other = first_in_formula(alloc, phase, tables, scope, part)?;
-                found = earlier(found, other);
-            }
-            Ok(found)
+            Ok(first_in_formulas(alloc, phase, tables, scope, parts.as_slice())?)
         }
         FactForm::Or(_, choices) => {
-            let mut found = None;
-            for choice in choices.as_slice() {
-                let other = first_in_formula(alloc, phase, tables, scope, choice)?;
-                found = earlier(found, other);
-            }
-            Ok(found)
+            Ok(first_in_formulas(alloc, phase, tables, scope, choices.as_slice())?)
         }
         FactForm::Not(_, part) => Ok(first_in_formula(alloc, phase, tables, scope, part.get())?),
         FactForm::Imply(_, left, right) => {
@@ -69,4 +61,22 @@ pub(crate) fn first_in_formula(
         }
         FactForm::LeftOut(_) => Ok(None),
     }
+}
+
+#[cycle(formulas)]
+fn first_in_formulas(
+    alloc: Global,
+    phase: Phase,
+    tables: &Tables,
+    scope: &Scope,
+    parts: &[FactForm],
+) -> Result<Option<Offence>, NoMemory>
+    ensures { IfOk result (λ o. o ≡ least (flat_map (formula_offences phase tables.now (variables_of scope.now)) parts.now)) }
+{
+    let mut found = None;
+    for part in parts {
+        let other = first_in_formula(alloc, phase, tables, scope, part)?;
+        found = earlier(found, other);
+    }
+    Ok(found)
 }

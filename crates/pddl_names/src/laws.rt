@@ -1,6 +1,7 @@
 //! What follows from the definitions.
 
 ghost use Rattle.pddl_names.specs.Declarations.{Text, Typed};
+ghost use Rattle.pddl_names.specs.Examples.{ExamplesComeOut};
 ghost use Rattle.pddl_names.specs.Laws.{FittingIsAnOrder, LeastIsFirst};
 ghost use Rattle.pddl_names.specs.declared.offences.Offence.{Offence};
 ghost use Rattle.std.specs.Prelude.{List};
@@ -15,4 +16,9 @@ pub fn fitting_is_an_order()
 /// exactly where there is none.
 pub fn least_offence_is_first()
     ensures { (offences : List Offence) (o : Offence) → LeastIsFirst offences o }
+{}
+
+/// The examples have the offences that were worked out by hand.
+pub fn examples_come_out()
+    ensures { ExamplesComeOut }
 {}

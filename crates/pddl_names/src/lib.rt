@@ -6,6 +6,7 @@ mod calls;
 mod conditions;
 mod constraints;
 mod declarations;
+mod domains;
 mod effects;
 mod equality;
 mod expressions;
@@ -15,14 +16,22 @@ mod goals;
 mod laws;
 mod names;
 mod offences;
+mod preferences;
+mod problems;
 mod scope;
 mod sides;
 mod tables;
 mod typed_lists;
 
+pub use declarations::Tables;
+pub use domains::{first_name_offence, first_type_offence};
 pub use equality::is_equality;
 pub use fitting::fits;
-pub use laws::{fitting_is_an_order, least_offence_is_first};
+pub use laws::{examples_come_out, fitting_is_an_order, least_offence_is_first};
 pub use names::Names;
-pub use offences::{Offence, Phase};
+pub use offences::{Offence, Phase, earlier};
+pub use problems::{first_problem_name_offence, first_problem_type_offence};
 pub use tables::Table;
+
+#[cfg(test)]
+mod tests;

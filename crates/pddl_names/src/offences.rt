@@ -20,8 +20,9 @@ pub enum Phase {
     Types,
 }
 
-/// Of two offences the one of lesser place; of two at one place the former.
-pub(crate) fn earlier(one: Option<Offence>, other: Option<Offence>) -> Option<Offence>
+/// Of two offences the one of lesser place; of two at one place the former. Phases that are judged apart, and parts of
+/// one phase, are joined by it.
+pub fn earlier(one: Option<Offence>, other: Option<Offence>) -> Option<Offence>
     ensures { result ≡ earlier one other }
 {
     let Some(first) = one else {

@@ -15,7 +15,8 @@ use pddl_terms::{Group, Kind, Name, TypeName};
 use sqlite_items::Items;
 use std::alloc::Global;
 
-fn type_bytes(alloc: Global, of: &TypeName) -> Result<Items<u8>, NoMemory>
+/// The bytes of a type.
+pub(crate) fn type_bytes(alloc: Global, of: &TypeName) -> Result<Items<u8>, NoMemory>
     ensures { IfOk result (λ bytes. bytes ≡ type_bytes of.now) }
 {
     match of {

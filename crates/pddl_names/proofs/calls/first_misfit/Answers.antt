@@ -1,4 +1,4 @@
-use Rattle.std.proofs.Common.{◌∙◌, sym, ap}
+use Rattle.std.proofs.Common.{◌∙◌, ap}
 use Rattle.pddl_names.specs.Scopes.{variables_of}
 use Rattle.pddl_names.proofs.Calling.{misfits-next, misfits-end, misfits-unasked}
 use Rattle.pddl_names.specs.Fitting.{fits}

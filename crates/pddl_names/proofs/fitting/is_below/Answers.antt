@@ -1,4 +1,4 @@
-use Rattle.std.proofs.Common.{◌≡◌, ◌∙◌, sym, ap, ◌-◌, ◌+◌, arith, true, false, length}
+use Rattle.std.proofs.Common.{◌≡◌, ◌∙◌, sym, ap, ◌-◌, ◌+◌, arith, length}
 use Rattle.pddl_names.specs.Declarations.{among}
 use Rattle.pddl_names.specs.Fitting.{chain}
 use Rattle.pddl_names.proofs.Chains.{chain-here, chain-last, chain-up, chain-top}

@@ -1,7 +1,8 @@
 use Rattle.std.proofs.Common.{◌∙◌, ap, ◌∷◌, [], map}
 use Rattle.std.proofs.lemmas.List.{take_all}
 use Rattle.pddl_names.specs.Declarations.{Text, Typed, type_bytes, with_first, with_firsts}
-use Rattle.pddl_names.proofs.Doubling.{firsts-loop, each_as}
+use Rattle.std.proofs.lemmas.List.Concat.{flat_map_single}
+use Rattle.pddl_names.proofs.Doubling.{firsts-loop}
 use Rattle.pddl_names.proofs.typed_lists.add_group.Goals as goal
 
 pub loop-name-preserved : goal.loop-name-preserved
@@ -12,5 +13,5 @@ loop-name-preserved c =
 
 pub returns : goal.returns
 returns c =
-    c.loop-name.invariant ∙ ap (with_firsts c.args.table.now) (each_as {Y = Typed} (λ n. (n.bytes, type_bytes c.args.group.now.of)) _
+    c.loop-name.invariant ∙ ap (with_firsts c.args.table.now) (flat_map_single {A = Typed} (λ n. (n.bytes, type_bytes c.args.group.now.of)) _
     ∙ ap (map {B = Typed} (λ n. (n.bytes, type_bytes c.args.group.now.of))) (take_all _ _ c.loop-name-test.false ∙ c.as_slice-name-items.ensures))

@@ -1,6 +1,6 @@
-use Rattle.std.proofs.Common.{◌∙◌, ◌≡◌, sym, ap, true, false, is_some, ◌++◌, ◌∷◌, [], List}
+use Rattle.std.proofs.Common.{◌∙◌, sym, ap, is_some, ◌++◌, ◌∷◌, []}
 use Rattle.indexmap.proofs.CallerLemmas.{insert_entry-new}
-use Rattle.pddl_names.specs.Declarations.{Text, value_of, with_first}
+use Rattle.pddl_names.specs.Declarations.{value_of}
 use Rattle.pddl_names.proofs.Tabled.{shown, value_in, with_first-there, with_first-new, absent, shown-append}
 use Rattle.pddl_names.proofs.tables.Table.add.Goals as goal
 
