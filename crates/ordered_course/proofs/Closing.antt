@@ -1,5 +1,5 @@
 -- A closed list of steps closes what it starts, whatever its times are.
-use Rattle.std.proofs.Common.{◌≡◌, refl, sym, subst, ◌∙◌, ℕ, ◌<◌, Bool, true, false, ◌||◌, List, [], ◌∷◌, ◌++◌, length, arith, append_assoc, length-append, Option, Some, None}
+use Rattle.std.proofs.Common.{◌≡◌, refl, sym, subst, ◌∙◌, ℕ, ◌<◌, true, false, ◌||◌, List, [], ◌∷◌, ◌++◌, length, arith, append_assoc, length-append, Option, Some, None}
 use Rattle.std.specs.Prelude.{not, slice_index, option_to_list, take}
 use Rattle.std.specs.List.{zip}
 use Rattle.std.proofs.Math.Seq.{take-append_seam, get_or-append_seam}

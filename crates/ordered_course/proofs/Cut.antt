@@ -13,7 +13,7 @@ use Rattle.task_types.specs.Tests.{total, last_or_else}
 use Rattle.task_types.specs.Sets.{is_in}
 use Rattle.task_types.specs.Plan.{Step, snap_of}
 use Rattle.task_types.specs.Course.{effect_of, happen}
-use Rattle.task_types.specs.Clash.{assigned_fluents, increased_fluents, written_fluents}
+use Rattle.task_types.specs.Clash.{assigned_fluents, increased_fluents}
 use Rattle.task_types.specs.Touch.{bent_fluents}
 use Rattle.task_types.proofs.Everyone.{all_both}
 use Rattle.ordering.specs.Along.{Carried, at_time, at_first, turn, carry, carry_all, carried, changes_fact, Independent}

@@ -1,8 +1,8 @@
 -- The steps of a list at times whose links hold are in order, by what ties them.
-use Rattle.std.proofs.Common.{◌≡◌, refl, sym, ap, subst, ◌∙◌, ℕ, suc, Bool, true, false, ◌&&◌, List, [], ◌∷◌, ◌++◌, length, arith, append_assoc}
+use Rattle.std.proofs.Common.{◌≡◌, refl, sym, subst, ◌∙◌, ℕ, Bool, true, false, List, [], ◌∷◌, ◌++◌, length, arith, append_assoc}
 use Rattle.std.specs.List.{list_all, zip, AllByRecursion}
 use Rattle.rational.specs.Rational.{ℚ, zeroℚ, ◌<ℚ◌}
-use Rattle.basics.proofs.Bools.{and_left, and_right, and_in}
+use Rattle.basics.proofs.Bools.{and_left, and_right}
 use Rattle.task_types.specs.declared.parts.Rules.{Rules}
 use Rattle.task_types.specs.declared.parts.TaskParts.{TaskParts}
 use Rattle.task_types.specs.Plan.{Step, snap_of}

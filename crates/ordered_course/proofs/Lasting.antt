@@ -1,10 +1,10 @@
 -- The lines that a list begins: each durative one ends no earlier than it starts.
-use Rattle.std.proofs.Common.{◌≡◌, refl, sym, ap, ap₂, subst, ◌∙◌, ℕ, zero, suc, ◌+◌, Bool, true, false, cond, not, ◌&&◌, ◌||◌, ◌==◌, List, [], ◌∷◌, ◌++◌, map, arith, inl, inr, Option, Some, None}
+use Rattle.std.proofs.Common.{◌≡◌, refl, sym, ap, subst, ◌∙◌, ℕ, zero, suc, ◌+◌, Bool, true, false, cond, not, ◌||◌, ◌==◌, List, [], ◌∷◌, ◌++◌, map, arith, inl, inr, Option, Some, None}
 use Rattle.std.specs.Prelude.{◌⊎◌, if◌then◌else◌, slice_index_or, option_to_list, is_some}
-use Rattle.std.specs.List.{list_any, filter, flat_map, enumerate_from, zip, AllByRecursion}
+use Rattle.std.specs.List.{list_any, filter, flat_map, enumerate_from, AllByRecursion}
 use Rattle.std.proofs.lemmas.List.{append-nil}
 use Rattle.std.proofs.lemmas.List.Folds.{list_any-append}
-use Rattle.rational.specs.Rational.{ℚ, zeroℚ, ◌+ℚ◌, ◌-ℚ◌, ◌<ℚ◌, ◌≤ℚ◌}
+use Rattle.rational.specs.Rational.{ℚ, ◌-ℚ◌, ◌≤ℚ◌}
 use Rattle.rational.proofs.Order.{lt_le}
 use Rattle.rational.proofs.Ring.{law, num, ◌⊕◌, ◌⊖◌, ◌≐◌}
 use Rattle.rational.proofs.Field.{ℚ_ring}
@@ -18,7 +18,7 @@ use Rattle.task_types.specs.declared.plans.PlanLine.{PlanLine}
 use Rattle.task_types.specs.declared.tokens.Token.{Token}
 use Rattle.task_types.specs.declared.tokens.Token.TheVariants as token
 use Rattle.task_types.specs.Sets.{is_in}
-use Rattle.task_types.specs.Plan.{Plan, Step, no_action, action_of, snap_of, end_of}
+use Rattle.task_types.specs.Plan.{Plan, Step, no_action, action_of, snap_of}
 use Rattle.task_types.specs.Touch.{started_or_ended, is_start_or_end, tokens}
 use Rattle.task_types.specs.Order.{sets_apart, run_on}
 use Rattle.task_types.specs.Agreement.{end_time, begun, begun_lines, numbered}
@@ -26,7 +26,7 @@ use Rattle.task_types.proofs.Everyone.{all_map}
 use Rattle.basics.proofs.Lists.{each_append}
 use Rattle.ordering.specs.Along.{tied_apart, Follows, AreInOrder}
 use Rattle.ordered_course.specs.Lines.{started_on, steps_listed}
-use Rattle.ordered_course.proofs.Listed.{MayCome, Closes, AreOwned}
+use Rattle.ordered_course.proofs.Listed.{Closes, AreOwned}
 use Rattle.ordered_course.proofs.Closing.{HaveActions}
 use Rattle.ordered_course.proofs.PlanRates.{IsDurative, IsInstant}
 
@@ -48,7 +48,7 @@ any_action p n (x ∷ xs) (suc i) e h = go (is_some x.end) (any_action p (n + 1)
     go true r = or_right (p (token.Action n)) (list_any p (map (λ a. token.Action a.0) (filter (λ a. is_some a.1.end) (enumerate_from (n + 1) xs)))) r
     go false r = r
 
-any_last : (p : Token → Bool) (xs ys : List Token) → list_any p ys ≡ true → list_any p (xs ++ ys) ≡ true
+pub any_last : (p : Token → Bool) (xs ys : List Token) → list_any p ys ≡ true → list_any p (xs ++ ys) ≡ true
 any_last p xs ys h = list_any-append p xs ys ∙ ap (λ b. list_any p xs || b) h ∙ or_true (list_any p xs)
 
 action_token : (task : TaskParts) (p : Token → Bool) (a : ℕ) → is_some (action_of task a).end ≡ true → p (token.Action a) ≡ true → list_any p (tokens task) ≡ true
@@ -79,7 +79,7 @@ module _ (task : TaskParts) (owned : AreOwned task) (have : HaveActions task) wh
       go (Some b) q = q ∙ ap Some (owned.own_end b a e (owned.ends e b (owned.end_kind a e h) q) h)
 
   -- an action that runs goes on running after a step that isn't its end
-  goes_on : (a s : ℕ) (running : List ℕ) → is_in a running ≡ true → is_in s (option_to_list (action_of task a).end) ≡ false → is_in a (run_on (snap_of task s).kind (option_to_list (snap_of task s).action) running) ≡ true
+  pub goes_on : (a s : ℕ) (running : List ℕ) → is_in a running ≡ true → is_in s (option_to_list (action_of task a).end) ≡ false → is_in a (run_on (snap_of task s).kind (option_to_list (snap_of task s).action) running) ≡ true
   goes_on a s running i n = go (snap_of task s).kind (snap_of task s).action refl refl
     where
       kept : (b : ℕ) (xs : List ℕ) → (b == a) ≡ false → is_in a xs ≡ true → is_in a (filter (λ c. not (is_in c (b ∷ []))) xs) ≡ true

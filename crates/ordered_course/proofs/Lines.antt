@@ -7,7 +7,7 @@ use Rattle.std.proofs.lemmas.List.Sorted.{IsPermutation-refl, IsPermutation-tran
 use Rattle.rational.specs.Rational.{ℚ, zeroℚ, ◌-ℚ◌}
 use Rattle.rational.proofs.Ring.{law, ◌⊕◌, ◌⊖◌, ◌≐◌}
 use Rattle.rational.proofs.Field.{ℚ_ring}
-use Rattle.basics.proofs.Bools.{and_left, and_right, not_true, or_false_left, or_false_right}
+use Rattle.basics.proofs.Bools.{and_left, and_right, not_true}
 use Rattle.basics.proofs.Naturals.{same_out, same_itself}
 use Rattle.task_types.specs.declared.actions.SnapKind.{SnapKind}
 use Rattle.task_types.specs.declared.actions.SnapKind.TheVariants.{Start, End, Instant, Timed}

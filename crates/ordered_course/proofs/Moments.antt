@@ -1,17 +1,13 @@
 -- The timed steps of a closed list are those of the task, in order, each at its moment.
-use Rattle.std.proofs.Common.{◌≡◌, refl, sym, ap, ap₂, subst, ◌∙◌, ℕ, zero, suc, ◌+◌, ◌<◌, ◌≤◌, Bool, true, false, cond, not, ◌&&◌, ◌||◌, ◌==◌, List, [], ◌∷◌, ◌++◌, map, length, take, drop, arith, inl, inr}
-use Rattle.std.specs.Prelude.{◌⊎◌, slice_index_or, is_none}
-use Rattle.std.specs.List.{list_any, list_all, filter, zip, AllByRecursion}
-use Rattle.std.proofs.lemmas.Bool.Decides.{nat_tests}
-use Rattle.rational.specs.Rational.{ℚ, zeroℚ, ◌<ℚ◌}
+use Rattle.std.proofs.Common.{◌≡◌, refl, sym, ap, ap₂, subst, ◌∙◌, ℕ, zero, suc, ◌+◌, ◌<◌, Bool, true, false, ◌&&◌, ◌||◌, ◌==◌, List, [], ◌∷◌, drop, arith}
+use Rattle.std.specs.List.{list_any, AllByRecursion}
+use Rattle.rational.specs.Rational.{ℚ, ◌<ℚ◌}
 use Rattle.rational.proofs.Inequalities.{lt_trans}
 use Rattle.basics.proofs.Bools.{and_left, and_right, or_false}
 use Rattle.basics.proofs.Naturals.{same_out}
 use Rattle.task_types.specs.declared.parts.TaskParts.{TaskParts}
 use Rattle.task_types.specs.Tests.{◌=?◌, ◌<?◌}
-use Rattle.task_types.specs.Plan.{snap_of}
 use Rattle.task_types.specs.Trace.{at}
-use Rattle.task_types.specs.Touch.{is_timed}
 use Rattle.task_types.specs.WellMade.{are_timed, moments_ascend}
 use Rattle.task_types.proofs.Comparisons.{lt_out, eq_out}
 

@@ -1,7 +1,7 @@
 -- What a part of a list carries, as the states of a plan of which the list tells.
 use Rattle.std.proofs.Common.{◌≡◌, sym, ap, ◌∙◌, ℕ, true, false, List, ◌++◌}
 use Rattle.std.specs.Prelude.{not}
-use Rattle.std.specs.List.{filter, AllByRecursion}
+use Rattle.std.specs.List.{AllByRecursion}
 use Rattle.rational.specs.Rational.{ℚ, ◌<ℚ◌, ◌≤ℚ◌}
 use Rattle.basics.proofs.Bools.{not_true}
 use Rattle.task_types.specs.declared.parts.TaskParts.{TaskParts}

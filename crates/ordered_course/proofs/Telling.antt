@@ -1,36 +1,33 @@
 -- The steps of a closed ordering at times that agree with it tell of its timed plan.
-use Rattle.std.proofs.Common.{◌≡◌, refl, sym, ap, subst, ◌∙◌, ℕ, zero, suc, ◌+◌, ◌<◌, ◌≤◌, Bool, true, false, not, ◌&&◌, ◌==◌, List, [], ◌∷◌, ◌++◌, map, length, take, drop, arith, inl, inr, Option, Some, None}
+use Rattle.std.proofs.Common.{◌≡◌, refl, sym, ap, subst, ◌∙◌, ℕ, zero, suc, ◌+◌, true, false, not, ◌&&◌, ◌==◌, List, [], ◌∷◌, ◌++◌, map, length, take, drop, arith, inl, inr, Some, None}
 use Rattle.std.specs.Prelude.{◌⊎◌, IsPermutation, slice_index, is_none, IsTrue}
 use Rattle.std.specs.List.{list_all, filter, flat_map, zip, AllByRecursion}
-use Rattle.std.proofs.lemmas.List.Sorted.{IsPermutation-refl, IsPermutation-trans, IsPermutation-append_left}
-use Rattle.rational.specs.Rational.{ℚ, zeroℚ, ◌<ℚ◌, ◌≤ℚ◌}
+use Rattle.std.proofs.lemmas.List.Sorted.{IsPermutation-trans, IsPermutation-append_left}
+use Rattle.rational.specs.Rational.{ℚ, zeroℚ, ◌≤ℚ◌}
 use Rattle.basics.proofs.Bools.{and_left, and_right}
 use Rattle.basics.proofs.Naturals.{same_out}
 use Rattle.basics.proofs.Lists.{each_left}
-use Rattle.task_types.specs.declared.actions.SnapKind.{SnapKind}
-use Rattle.task_types.specs.declared.actions.SnapKind.TheVariants.{Start, End, Instant, Timed}
+use Rattle.task_types.specs.declared.actions.SnapKind.TheVariants.{Timed}
 use Rattle.task_types.specs.declared.parts.Rules.{Rules}
 use Rattle.task_types.specs.declared.parts.TaskParts.{TaskParts}
 use Rattle.task_types.specs.declared.plans.PlanLine.{PlanLine}
-use Rattle.task_types.specs.Sets.{are_distinct}
-use Rattle.task_types.specs.Plan.{Plan, Step, no_snap, action_of, snap_of, duration_of, end_of, end_step, line_steps, plan_steps, timed_steps, steps}
-use Rattle.task_types.specs.Clash.{assigned_fluents}
+use Rattle.task_types.specs.Plan.{no_snap, action_of, snap_of, duration_of, end_of, end_step, line_steps, plan_steps, timed_steps, steps}
 use Rattle.task_types.specs.Touch.{is_timed}
 use Rattle.task_types.specs.Trace.{at}
-use Rattle.task_types.specs.Order.{Order, IsClosedOrdering, is_built, is_closed, may_follow, running, timed_count, plan_step_count}
+use Rattle.task_types.specs.Order.{Order, IsClosedOrdering, is_built, is_closed, may_follow, running, timed_count}
 use Rattle.task_types.specs.Agreement.{agree, are_linked, is_placed, begun_lines, numbered, plan_of}
 use Rattle.task_types.specs.Valid.{ArePositive}
-use Rattle.task_types.specs.WellMade.{IsWellMade, is_short, snap_fits, are_timed, moments_ascend, snap_total}
+use Rattle.task_types.specs.WellMade.{IsWellMade, is_short, snap_fits, are_timed, snap_total}
 use Rattle.task_types.proofs.Assigning.{snap_of_fits, at_read}
 use Rattle.task_types.proofs.Everyone.{all_both, all_of_flat_map}
 use Rattle.task_types.proofs.Formed.{IsOwned, timed, started, ended, at_once, snap-owned}
 use Rattle.task_types.proofs.Segment.{Outside}
 use Rattle.task_types.proofs.Traces.{every_out}
-use Rattle.ordering.specs.Along.{AllAgree}
+use Rattle.ordering.specs.Along.{AllAgree, AreInOrder}
 use Rattle.ordering.specs.Laws.{Tells}
 use Rattle.ordering.proofs.Tied.{all_agree}
 use Rattle.ordered_course.specs.Lines.{steps_listed, steps_of}
-use Rattle.ordered_course.proofs.Listed.{AreOwned, Closes, plan_listed}
+use Rattle.ordered_course.proofs.Listed.{Closes}
 use Rattle.ordered_course.proofs.Closing.{HaveActions, closes}
 use Rattle.ordered_course.proofs.InOrder.{in_order}
 use Rattle.ordered_course.proofs.Lasting.{IsSound, begun_sound, numbered_lines_sound}
@@ -81,7 +78,7 @@ unfolding agree
 placed_so task rules o times h = record { lengths = same_out _ _ (and_left _ _ (and_left _ _ (and_left _ _ h))); linked = and_right _ _ (and_left _ _ (and_left _ _ h)); placed = and_right _ _ h }
 
 -- the timed steps of a task are timed
-timed_kinds : (task : TaskParts) (us : List (ℚ × ℕ)) (n : ℕ) → are_timed task n us ≡ true → AllByRecursion (λ u. (snap_of task u.1).kind ≡ Timed) us
+pub timed_kinds : (task : TaskParts) (us : List (ℚ × ℕ)) (n : ℕ) → are_timed task n us ≡ true → AllByRecursion (λ u. (snap_of task u.1).kind ≡ Timed) us
 timed_kinds task [] n h = tt
 timed_kinds task (u ∷ us) n h = (ap (λ m. (snap_of task m).kind) (same_out u.1 n (and_left _ _ (and_left _ _ h))) ∙ is_timed_out (snap_of task n).kind here, timed_kinds task us (n + 1) (and_right _ _ h))
   where
@@ -100,7 +97,7 @@ module _ (task : TaskParts) (rules : Rules) (o : Order) (times : List ℚ) (w : 
   abbrev none_started : ℕ → ℚ
   none_started a = zeroℚ
 
-  numbers_timed : are_timed task (snap_total task.actions) task.timed ≡ true
+  pub numbers_timed : are_timed task (snap_total task.actions) task.timed ≡ true
   numbers_timed = and_right _ _ (and_left _ _ w.timed)
 
   follows_all : Follow task ([] ++ o.steps)
@@ -140,10 +137,12 @@ module _ (task : TaskParts) (rules : Rules) (o : Order) (times : List ℚ) (w : 
         last a = (subst (λ o. AllByRecursion (λ s. (s.time ≤ℚ from) ⊎ (to ≤ℚ s.time)) (record { time = l.at; snap = (action_of task l.action).start; duration = duration_of l } ∷ end_step l o)) d.has_end a).1.0
     ends_outside from to l (inr d) a = inr d
 
-    ordered : AllAgree task (steps_of task o times)
+    pub steps_in_order : AreInOrder task (steps_of task o times)
     unfolding steps_of
-    ordered = all_agree task (snap_of_fits task (and_right (is_short task.snaps) (list_all (snap_fits task) task.snaps) w.snaps)) (steps_listed task none_started (zip o.steps times))
-        (in_order task rules positive.epsilon (snap_total task.actions) numbers_timed (and_right _ _ w.timed) [] o.steps times none_started h.lengths follows_all h.placed h.linked)
+    steps_in_order = in_order task rules positive.epsilon (snap_total task.actions) numbers_timed (and_right _ _ w.timed) [] o.steps times none_started h.lengths follows_all h.placed h.linked
+
+    ordered : AllAgree task (steps_of task o times)
+    ordered = all_agree task (snap_of_fits task (and_right (is_short task.snaps) (list_all (snap_fits task) task.snaps) w.snaps)) (steps_of task o times) steps_in_order
 
     pub tells : Tells task (plan_of task o times) (steps_of task o times)
     tells = record {

@@ -1,8 +1,8 @@
 -- The timed steps along a list: they are those of the task, one after the other, and come in the order of their
 -- moments.
-use Rattle.std.proofs.Common.{◌≡◌, refl, sym, ap, ap₂, subst, ◌∙◌, ℕ, zero, suc, ◌+◌, ◌<◌, ◌≤◌, Bool, true, false, cond, not, ◌&&◌, ◌==◌, List, [], ◌∷◌, ◌++◌, map, length, take, drop, arith, Option, Some, None, append_assoc, length-append}
-use Rattle.std.specs.Prelude.{slice_index, slice_index_or, if◌then◌else◌}
-use Rattle.std.specs.List.{list_any, list_all, filter, zip, count_by, AllByRecursion}
+use Rattle.std.proofs.Common.{◌≡◌, refl, sym, ap, ap₂, subst, ◌∙◌, ℕ, zero, suc, ◌+◌, ◌<◌, Bool, true, false, cond, ◌&&◌, ◌==◌, List, [], ◌∷◌, ◌++◌, map, length, take, drop, arith, Option, Some, None, append_assoc, length-append}
+use Rattle.std.specs.Prelude.{slice_index, if◌then◌else◌}
+use Rattle.std.specs.List.{list_any, list_all, filter, zip, AllByRecursion}
 use Rattle.std.proofs.Math.Seq.{take-append_seam, get_or-append_seam}
 use Rattle.std.proofs.lemmas.List.Sums.{sum_by-cons}
 use Rattle.rational.specs.Rational.{ℚ, zeroℚ, ◌<ℚ◌}
@@ -12,8 +12,7 @@ use Rattle.task_types.specs.declared.actions.SnapKind.TheVariants.{Start, End, I
 use Rattle.task_types.specs.declared.parts.Rules.{Rules}
 use Rattle.task_types.specs.declared.parts.TaskParts.{TaskParts}
 use Rattle.task_types.specs.Tests.{◌=?◌, ◌≤?◌}
-use Rattle.task_types.specs.Plan.{Step, snap_of, timed_steps}
-use Rattle.task_types.specs.Trace.{at}
+use Rattle.task_types.specs.Plan.{Step, snap_of}
 use Rattle.task_types.specs.Touch.{is_timed}
 use Rattle.task_types.specs.Order.{may_follow, timed_count}
 use Rattle.task_types.specs.Agreement.{is_placed}
@@ -37,7 +36,7 @@ is_timed_out Instant e = let c : false ≡ true = e in cc
 is_timed_out Timed e = refl
 
 -- what a step at the seam of two parts is told
-follows_here : (task : TaskParts) (pre suf : List ℕ) (s : ℕ) → Follow task (pre ++ s ∷ suf) → may_follow task pre s (snap_of task s).kind ≡ true
+pub follows_here : (task : TaskParts) (pre suf : List ℕ) (s : ℕ) → Follow task (pre ++ s ∷ suf) → may_follow task pre s (snap_of task s).kind ≡ true
 follows_here task pre suf s f = subst (λ n. may_follow task pre n (snap_of task n).kind ≡ true) itself (subst (λ xs. may_follow task xs (slice_index (pre ++ s ∷ suf) (length pre)) (snap_of task (slice_index (pre ++ s ∷ suf) (length pre))).kind ≡ true) before (f (length pre) shorter))
   where
     before : take (length pre) (pre ++ s ∷ suf) ≡ pre

@@ -1,17 +1,19 @@
 -- Believed: what the course along the list of an ordering tells of its timed plan.
-use Rattle.std.specs.Prelude.{ℕ, ◌≡◌, ◌⊎◌, Bool, true, false, IsTrue, List, ◌++◌}
+use Rattle.std.specs.Prelude.{ℕ, ◌≡◌, Bool, false, IsTrue, List, ◌++◌, Some}
 use Rattle.std.specs.List.{AllByRecursion}
 use Rattle.rational.specs.Rational.{ℚ, zeroℚ, ◌<ℚ◌, ◌≤ℚ◌}
 use Rattle.exact_lin.specs.Forms.{LinearForm}
 use Rattle.task_types.specs.declared.constraints.TrailKind.{TrailKind}
 use Rattle.task_types.specs.declared.constraints.TrailKind.TheVariants.{Within}
+use Rattle.task_types.specs.declared.orderings.Blocked.{Blocked}
 use Rattle.task_types.specs.declared.parts.Rules.{Rules}
 use Rattle.task_types.specs.declared.parts.TaskParts.{TaskParts}
 use Rattle.task_types.specs.State.{value}
 use Rattle.task_types.specs.Plan.{Plan, Step, snap_of}
 use Rattle.task_types.specs.Course.{before, after}
 use Rattle.task_types.specs.Order.{Order, IsClosedOrdering}
-use Rattle.task_types.specs.Agreement.{agree, plan_of}
+use Rattle.task_types.specs.Agreement.{agree, plan_of, ValidTimes}
+use Rattle.task_types.specs.Blocking.{blocked}
 use Rattle.task_types.specs.Valid.{ArePositive}
 use Rattle.task_types.specs.WellMade.{IsWellMade}
 use Rattle.task_types.specs.Laws.{kept_along}
@@ -57,3 +59,7 @@ pub record HeldBetween : Type 0 where
 -- Two walks through the same states keep the same constraints of each kind but `within`, however long they linger.
 abbrev pub WalksAreAlike : Type 0
 WalksAreAlike = (a b : ℕ → Bool) (kind : TrailKind) (soon late : ℕ → Bool) (ks ls : List ℕ) (n i : ℕ) → (kind ≡ Within → ⊥) → Walks n i ks → Walks n i ls → kept_along kind a b soon ks ≡ kept_along kind a b late ls
+
+-- A blocked ordering has no valid times: what fails along its list fails in every timed plan of it.
+abbrev pub BlockedIsSound : Type 0
+BlockedIsSound = (task : TaskParts) (rules : Rules) (o : Order) (times : List ℚ) (b : Blocked) → IsWellMade task → ArePositive rules → blocked task o.steps ≡ Some b → ValidTimes task rules o times → ⊥

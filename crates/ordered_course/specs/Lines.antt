@@ -1,5 +1,5 @@
 -- Believed: the steps of a list at their times, in the order of the list, each with the duration of its action.
-use Rattle.std.specs.Prelude.{ℕ, ◌==◌, if◌then◌else◌, List, [], ◌∷◌, length, Option, Some, None}
+use Rattle.std.specs.Prelude.{ℕ, ◌==◌, if◌then◌else◌, List, [], ◌∷◌, Option, Some, None}
 use Rattle.std.specs.List.{zip}
 use Rattle.rational.specs.Rational.{ℚ, zeroℚ, ◌-ℚ◌}
 use Rattle.task_types.specs.declared.actions.SnapKind.{SnapKind}

@@ -1,6 +1,6 @@
 //! Laws of the definitions: each function does nothing, and its contract is the law.
 
-ghost use Rattle.ordered_course.specs.Laws.{AgreeingTimesTell, PartsTellStates, HeldBetween, WalksAreAlike};
+ghost use Rattle.ordered_course.specs.Laws.{AgreeingTimesTell, PartsTellStates, HeldBetween, WalksAreAlike, BlockedIsSound};
 
 /// The steps of a closed ordering of a well made task, at times that agree with it, are the steps of its timed plan in
 /// an order that agrees with the times, and turn the slopes that are the plan's rates.
@@ -24,4 +24,10 @@ pub fn held_between()
 /// by one.
 pub fn walks_are_alike()
     ensures { WalksAreAlike }
+{}
+
+/// An ordering of a well made task that is blocked has no valid times: a literal or a hard constraint that fails along
+/// the list of its steps fails in each of its timed plans.
+pub fn blocked_is_sound()
+    ensures { BlockedIsSound }
 {}
