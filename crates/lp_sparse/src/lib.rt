@@ -22,3 +22,6 @@ mod width;
 pub use dictionary::SparseDictionary;
 pub use mixed::MixedDictionary;
 pub use multipliers::{nonzero_pairs, zeros_prove_nothing};
+
+#[cfg(test)]
+mod tests;
