@@ -42,7 +42,7 @@ impl<'a, R: Files> HostDesk<'a, R> {
 
 // All that a reader has left, where that is at most the longest file. std's loop tries a read
 // that was interrupted again.
-fn read_whole<F: Read + Drop>(alloc: Global, file: F) -> Result<Vec<u8>, Fetch>
+pub(crate) fn read_whole<F: Read + Drop>(alloc: Global, file: F) -> Result<Vec<u8>, Fetch>
     ensures limit { IsWithinLimit result }
     ensures bytes { GivesWhole (F.remaining file) result }
 {

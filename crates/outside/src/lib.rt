@@ -10,12 +10,14 @@ mod host;
 mod memory_desk;
 mod memory_sink;
 mod sink;
+mod words;
 
 pub use desk::{Desk, Fetch, LONGEST_FILE};
 pub use host::{HostDesk, HostSink};
 pub use memory_desk::MemoryDesk;
 pub use memory_sink::MemorySink;
 pub use sink::{Failed, Sink};
+pub use words::machine_words;
 
 #[cfg(test)]
 mod tests;

@@ -1,9 +1,12 @@
 //! A desk and a sink in memory that fail where they are told to, and those over the machine.
 
-use crate::{Desk, Fetch, HostDesk, HostSink, LONGEST_FILE, MemoryDesk, MemorySink, Sink};
+use crate::host::read_whole;
+use crate::{Desk, Fetch, HostDesk, HostSink, LONGEST_FILE, MemoryDesk, MemorySink, Sink, machine_words};
 use std::alloc::{AllocError, Global};
-use std::fs;
+use std::env::{Env, FillError};
+use std::io::{ErrorKind, Read};
 use std::test::Fail;
+use std::{fs, io};
 
 fn blank_file(alloc: Global, len: usize) -> Result<Vec<u8>, AllocError> {
     vec![in alloc; b' '; len]
@@ -143,4 +146,83 @@ fn standard_output_takes_pieces(rt: HostRuntime) {
     let mut sink = HostSink::new(&rt);
     assert_eq!(rt; sink.put(b"written\n"), Ok(()));
     assert_eq!(rt; sink.put(b""), Ok(()));
+}
+
+// A file whose reads end so.
+#[derive(Drop)]
+struct Broken(ErrorKind);
+
+impl Read for Broken {
+    fn read(&mut self, _buf: &mut [u8]) -> io::Result<usize> {
+        Err(io::Error::from(self.0))
+    }
+}
+
+#[test]
+fn broken_reads_are_told_apart(rt: HostRuntime) -> Result<(), Fail> {
+    for (kind, want) in [
+        (ErrorKind::OutOfMemory, Fetch::Memory),
+        (ErrorKind::InvalidData, Fetch::Failed),
+        (ErrorKind::UnexpectedEof, Fetch::Failed),
+    ] {
+        assert!(rt; read_whole(rt.alloc(), Broken(kind)).err() == Some(want));
+    }
+    Ok(())
+}
+
+// A machine with the words between the spaces of a text.
+#[derive(Drop)]
+struct Words<'a>(&'a [u8]);
+
+impl Env for Words<'_> {
+    fn arg(&self, i: usize, buf: &mut [u8]) -> Result<usize, FillError> {
+        let Some(word) = self.0.split(|b| *b == b' ').nth(i) else {
+            return Err(FillError::NotPresent);
+        };
+        let Some(room) = buf.get_mut(..word.len()) else {
+            return Err(FillError::TooLong);
+        };
+        room.copy_from_slice(word);
+        Ok(word.len())
+    }
+
+    fn var(&self, _name: &str, _buf: &mut [u8]) -> Result<usize, FillError> {
+        Err(FillError::NotPresent)
+    }
+
+    fn var_at(&self, _i: usize, _buf: &mut [u8]) -> Result<usize, FillError> {
+        Err(FillError::NotPresent)
+    }
+}
+
+// The words that a machine hands over, each behind a bar.
+fn handed_over(alloc: Global, words: &[u8]) -> Result<String, AllocError> {
+    let mut text = String::new(alloc);
+    for word in &machine_words(alloc, &Words(words))? {
+        text.push('|')?;
+        text.push_str(word)?;
+    }
+    Ok(text)
+}
+
+#[test]
+fn words_are_those_behind_the_name(rt: HostRuntime) -> Result<(), Fail> {
+    for (words, want) in [
+        (b"planner".as_slice(), ""),
+        (b"planner validate  tank", "|validate||tank"),
+        (b"\xff validate", "|validate"),
+        (b"planner validate \xff", ""),
+    ] {
+        assert!(rt; handed_over(rt.alloc(), words)?.as_str() == want, "{want}");
+    }
+    Ok(())
+}
+
+#[test]
+fn a_long_word_is_handed_over_whole(rt: HostRuntime) -> Result<(), Fail> {
+    let alloc = rt.alloc();
+    let mut words = Vec::from_slice(alloc, b"planner ")?;
+    words.extend_from_slice(&vec![in alloc; b'w'; 1000]?)?;
+    assert_eq!(rt; handed_over(alloc, &words)?.len(), 1001);
+    Ok(())
 }

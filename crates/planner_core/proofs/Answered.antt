@@ -1,8 +1,5 @@
 -- What the readers and the validator say together.
-use Rattle.std.proofs.Common.{◌≡◌, ℕ, List, lit<, arith, subst, sym, pos, Result, Ok, Err, IfOk}
-use Rattle.std.proofs.lemmas.Int.{ints}
-use Rattle.rational.specs.Rational.{zeroℚ, ◌<ℚ◌, ratio}
-use Rattle.rational.proofs.Order.{positive_in}
+use Rattle.std.proofs.Common.{◌≡◌, ℕ, List, subst, sym, Result, Ok, Err, IfOk}
 use Rattle.first_path.specs.declared.domains.Domain.{Domain as DomainRead}
 use Rattle.first_path.specs.declared.model.Task.{Task}
 use Rattle.first_path.specs.declared.model.PlanLine.{PlanLine}
@@ -10,18 +7,11 @@ use Rattle.first_path.specs.declared.model.Rules.{Rules}
 use Rattle.first_path.specs.DomainText.{IsDomain}
 use Rattle.first_path.specs.Problem.{IsProblem}
 use Rattle.planner_core.specs.PlanFile.{IsPlanFile}
-use Rattle.planner_core.specs.Answers.{AreRead, standard_rules, Answer, Unbuilt, Wide, Decided, IsAnswer, said_of, Validates}
+use Rattle.planner_core.specs.Answers.{AreRead, Answer, Unbuilt, Wide, Decided, IsAnswer, said_of, Validates}
 use Rattle.planner_core.specs.Replies.{Said, IsAnswerStatus}
 use Rattle.planner_core.specs.declared.reply.Role.TheVariants.{Domain, Problem, Plan}
 use Rattle.first_path.specs.declared.model.Undefined.TheVariants.{Line, Happening}
 use Rattle.first_path.specs.declared.model.Verdict.TheVariants.{Valid, Invalid}
-
-pub epsilon_is_positive : zeroℚ <ℚ ratio (pos 1) 1000
-epsilon_is_positive = positive_in (pos 1) 1000 (lit< tt) (omega (arith, ints))
-
--- rules with the standard numbers are the standard rules
-pub same_rules : (rules : Rules) → rules.epsilon ≡ ratio (pos 1) 1000 → rules.horizon ≡ ratio (pos 1000000) 1 → rules ≡ standard_rules
-same_rules rules e h = λ i. record { epsilon = e i; horizon = h i }
 
 pub are_read : (domain problem plan action : List ℕ) (read : DomainRead) (task : Task) (number : ℕ) (line : PlanLine) → IsDomain domain read → IsProblem problem read task
     → action ≡ read.action.items → IsPlanFile action plan number line → AreRead domain problem plan task number line
@@ -39,12 +29,12 @@ answer_status (Decided number (Valid cost)) = tt
 answer_status (Decided number (Invalid reason)) = tt
 
 -- a right answer has the status of an answer
-pub validates_status : (domain problem plan : List ℕ) (said : Said) → Validates domain problem plan said → IsAnswerStatus said.status
-validates_status domain problem plan said is =
+pub validates_status : (rules : Rules) (domain problem plan : List ℕ) (said : Said) → Validates rules domain problem plan said → IsAnswerStatus said.status
+validates_status rules domain problem plan said is =
     let P : Said → Type 0 = λ s. IsAnswerStatus s.status in
     subst P (sym is.told) (answer_status is.answer)
 
 -- the reply that tells a right answer, where there is memory for it
-pub told_right : {E : Type 0} (reply : Result Said E) (domain problem plan : List ℕ) (answer : Answer) → IsAnswer domain problem plan answer → IfOk reply (λ said. said ≡ said_of answer) → IfOk reply (Validates domain problem plan)
-told_right (Ok said) domain problem plan answer right told = record { answer = answer; right = right; told = told }
-told_right (Err e) domain problem plan answer right told = tt
+pub told_right : {E : Type 0} (reply : Result Said E) (rules : Rules) (domain problem plan : List ℕ) (answer : Answer) → IsAnswer rules domain problem plan answer → IfOk reply (λ said. said ≡ said_of answer) → IfOk reply (Validates rules domain problem plan)
+told_right (Ok said) rules domain problem plan answer right told = record { answer = answer; right = right; told = told }
+told_right (Err e) rules domain problem plan answer right told = tt

@@ -1,21 +1,24 @@
 -- Where the desk tells its files, the one right answer to them is told, but for faults.
-use Rattle.std.proofs.Common.{◌≡◌, ◌≤◌, ◌<◌, ◌⊎◌, inl, inr, ℕ, List, [], ◌∷◌, length, Option, Some, Ok, Err, sym, ◌∙◌, ap, subst, arith}
+use Rattle.std.proofs.Common.{◌≡◌, ◌≤◌, ◌<◌, ◌⊎◌, inl, inr, ℕ, List, [], ◌∷◌, length, Option, Some, None, Ok, Err, sym, ◌∙◌, ap, subst, arith}
 use Rattle.std.specs.Option.{IsSomeAnd}
 use Rattle.outside.specs.Fetching.{Files, Answer, MayAnswer, DeskView}
 use Rattle.outside.specs.Putting.{SinkView, sink_with}
 use Rattle.outside.specs.declared.desk.Fetch.TheVariants.{Failed, Long, Memory}
 use Rattle.outside.specs.declared.desk.TheConstants.{LONGEST_FILE}
+use Rattle.command_words.specs.declared.requests.Limits.{Limits}
+use Rattle.first_path.specs.declared.model.Rules.{Rules}
 use Rattle.planner_core.specs.declared.status.Status.{Status}
 use Rattle.planner_core.specs.declared.status.Status.TheVariants.{ReadFault}
 use Rattle.planner_core.specs.declared.reply.Role.{Role}
 use Rattle.planner_core.specs.declared.reply.Role.TheVariants.{Domain, Problem, Plan}
 use Rattle.planner_core.specs.Replies.{Said, read_fault}
-use Rattle.planner_core.specs.Answers.{Answer as TextsAnswer, IsAnswer, said_of, Validates}
-use Rattle.planner_core.specs.Works.{Work, Ends, Asks, Request, Validate, work_of, work_or_usage}
-use Rattle.planner_core.specs.Sessions.{AreAnswers, IsReply, LedTo, Delivered}
+use Rattle.planner_core.specs.Answers.{Answer as TextsAnswer, IsAnswer, rules_of, said_of, Validates}
+use Rattle.planner_core.specs.Works.{Work, Ends, Asks, Request, Validate, AskFor, AreFor, work_of}
+use Rattle.planner_core.specs.Sessions.{AreAnswers, IsReply, LedTo, LedByWords, Delivered}
 use Rattle.planner_core.specs.Headline.{AreFetched}
 use Rattle.planner_core.specs.Laws.{Told, AnswersAreTold}
 use Rattle.first_path.proofs.DomainUniqueness.{some-one}
+use Rattle.planner_core.proofs.Asking.{one_asked}
 use Rattle.planner_core.proofs.OneAnswer.{answer_one}
 
 -- the work goes on with these bytes
@@ -58,47 +61,56 @@ Faulted said = said.status ≡ ReadFault
 faulted : (name : List ℕ) (said : Said) → said ≡ read_fault name → Faulted said
 faulted name said e = ap (λ (s : Said). s.status) e
 
-plan_end : (files : Files) (name domain problem plan : List ℕ) (said : Said) → (said ≡ read_fault name) ⊎ GoesOn files (λ l. Ends (Validates domain problem l)) plan said
-    → Faulted said ⊎ Validates domain problem plan said
-plan_end files name domain problem plan said (inl e) = inl (faulted name said e)
-plan_end files name domain problem plan said (inr last) = inr last.replied
+plan_end : (rules : Rules) (files : Files) (name domain problem plan : List ℕ) (said : Said) → (said ≡ read_fault name) ⊎ GoesOn files (λ l. Ends (Validates rules domain problem l)) plan said
+    → Faulted said ⊎ Validates rules domain problem plan said
+plan_end rules files name domain problem plan said (inl e) = inl (faulted name said e)
+plan_end rules files name domain problem plan said (inr last) = inr last.replied
 
-problem_end : (files : Files) (problem_name plan_name domain problem plan : List ℕ) (said : Said) → MayAnswer (Some files) plan_name (Ok plan)
-    → (said ≡ read_fault problem_name) ⊎ GoesOn files (λ p. Asks Plan plan_name (λ l. Ends (Validates domain p l))) problem said → Faulted said ⊎ Validates domain problem plan said
-problem_end files problem_name plan_name domain problem plan said has (inl e) = inl (faulted problem_name said e)
-problem_end files problem_name plan_name domain problem plan said has (inr on) =
-    plan_end files plan_name domain problem plan said (step files Plan plan_name (λ l. Ends (Validates domain problem l)) plan on.answers said has on.asked on.replied)
+problem_end : (rules : Rules) (files : Files) (problem_name plan_name domain problem plan : List ℕ) (said : Said) → MayAnswer (Some files) plan_name (Ok plan)
+    → (said ≡ read_fault problem_name) ⊎ GoesOn files (λ p. Asks Plan plan_name (λ l. Ends (Validates rules domain p l))) problem said → Faulted said ⊎ Validates rules domain problem plan said
+problem_end rules files problem_name plan_name domain problem plan said has (inl e) = inl (faulted problem_name said e)
+problem_end rules files problem_name plan_name domain problem plan said has (inr on) =
+    plan_end rules files plan_name domain problem plan said (step files Plan plan_name (λ l. Ends (Validates rules domain problem l)) plan on.answers said has on.asked on.replied)
 
-domain_end : (files : Files) (domain_name problem_name plan_name domain problem plan : List ℕ) (said : Said) → MayAnswer (Some files) problem_name (Ok problem) → MayAnswer (Some files) plan_name (Ok plan)
-    → (said ≡ read_fault domain_name) ⊎ GoesOn files (λ d. Asks Problem problem_name (λ p. Asks Plan plan_name (λ l. Ends (Validates d p l)))) domain said
-    → Faulted said ⊎ Validates domain problem plan said
-domain_end files domain_name problem_name plan_name domain problem plan said has_problem has_plan (inl e) = inl (faulted domain_name said e)
-domain_end files domain_name problem_name plan_name domain problem plan said has_problem has_plan (inr on) =
-    problem_end files problem_name plan_name domain problem plan said has_plan
-    (step files Problem problem_name (λ p. Asks Plan plan_name (λ l. Ends (Validates domain p l))) problem on.answers said has_problem on.asked on.replied)
+domain_end : (rules : Rules) (files : Files) (domain_name problem_name plan_name domain problem plan : List ℕ) (said : Said) → MayAnswer (Some files) problem_name (Ok problem) → MayAnswer (Some files) plan_name (Ok plan)
+    → (said ≡ read_fault domain_name) ⊎ GoesOn files (λ d. Asks Problem problem_name (λ p. Asks Plan plan_name (λ l. Ends (Validates rules d p l)))) domain said
+    → Faulted said ⊎ Validates rules domain problem plan said
+domain_end rules files domain_name problem_name plan_name domain problem plan said has_problem has_plan (inl e) = inl (faulted domain_name said e)
+domain_end rules files domain_name problem_name plan_name domain problem plan said has_problem has_plan (inr on) =
+    problem_end rules files problem_name plan_name domain problem plan said has_plan
+    (step files Problem problem_name (λ p. Asks Plan plan_name (λ l. Ends (Validates rules domain p l))) problem on.answers said has_problem on.asked on.replied)
 
--- the reply to files that are told
-reply_told : (words : List (List ℕ)) (files : Files) (desk desk_now : DeskView) (said : Said) (domain problem plan : List ℕ) → desk.files ≡ Some files
-    → AreFetched words (Some files) domain problem plan → LedTo (work_of words) desk desk_now said → Faulted said ⊎ Validates domain problem plan said
-reply_told words files desk desk_now said domain problem plan told are led =
-    let work : Work = work_or_usage (Some (Validate are.domain_name are.problem_name are.plan_name)) in
-    let asked : AreAnswers desk.files work led.answers = subst (λ (r : Option Request). AreAnswers desk.files (work_or_usage r) led.answers) are.asked led.asked in
+-- the reply to files that are told, where the words ask for this
+told_by : (request : Request) (words : List (List ℕ)) (files : Files) (desk desk_now : DeskView) (said : Said) (limits : Limits) (domain problem plan : List ℕ) → desk.files ≡ Some files
+    → (are : AreFetched words (Some files) limits domain problem plan) → Validate are.names limits ≡ request → LedTo (work_of (Some request)) desk desk_now said
+    → Faulted said ⊎ Validates (rules_of limits) domain problem plan said
+told_by request words files desk desk_now said limits domain problem plan told are same led =
+    let rules : Rules = rules_of limits in
+    let work : Work = work_of (Some (Validate are.names limits)) in
+    let asked : AreAnswers desk.files work led.answers = subst (λ (r : Request). AreAnswers desk.files (work_of (Some r)) led.answers) (sym same) led.asked in
     let asked_told : AreAnswers (Some files) work led.answers = subst (λ (o : Option Files). AreAnswers o work led.answers) told asked in
-    let replied : IsReply work led.answers said = subst (λ (r : Option Request). IsReply (work_or_usage r) led.answers said) are.asked led.replied in
-    domain_end files are.domain_name are.problem_name are.plan_name domain problem plan said are.problem_fetched are.plan_fetched
-    (step files Domain are.domain_name (λ d. Asks Problem are.problem_name (λ p. Asks Plan are.plan_name (λ l. Ends (Validates d p l)))) domain led.answers said are.domain_fetched asked_told replied)
+    let replied : IsReply work led.answers said = subst (λ (r : Request). IsReply (work_of (Some r)) led.answers said) (sym same) led.replied in
+    domain_end rules files are.names.domain are.names.problem are.names.third domain problem plan said are.problem_fetched are.plan_fetched
+    (step files Domain are.names.domain (λ d. Asks Problem are.names.problem (λ p. Asks Plan are.names.third (λ l. Ends (Validates rules d p l)))) domain led.answers said are.domain_fetched asked_told replied)
 
-said_same : (domain problem plan : List ℕ) (said : Said) (answer : TextsAnswer) → IsAnswer domain problem plan answer → Validates domain problem plan said → said ≡ said_of answer
-said_same domain problem plan said answer right is = is.told ∙ ap said_of (answer_one domain problem plan is.answer answer is.right right)
+reply_told : (words : List (List ℕ)) (files : Files) (desk desk_now : DeskView) (said : Said) (limits : Limits) (domain problem plan : List ℕ) (request : Option Request) → desk.files ≡ Some files
+    → AreFetched words (Some files) limits domain problem plan → AreFor words request → LedTo (work_of request) desk desk_now said → Faulted said ⊎ Validates (rules_of limits) domain problem plan said
+reply_told words files desk desk_now said limits domain problem plan None told are none led = absurd (none (Validate are.names limits) are.asked)
+reply_told words files desk desk_now said limits domain problem plan (Some request) told are asked led =
+    told_by request words files desk desk_now said limits domain problem plan told are (one_asked words (Validate are.names limits) request are.asked asked) led
 
-ended : (domain problem plan : List ℕ) (said : Said) (answer : TextsAnswer) (sink sink_now : SinkView) (status : Status) → IsAnswer domain problem plan answer
-    → Faulted said ⊎ Validates domain problem plan said → Delivered said status sink sink_now → Told answer sink sink_now status
-ended domain problem plan said answer sink sink_now status right (inl e) (inl d) = inl (d.0 ∙ e)
-ended domain problem plan said answer sink sink_now status right (inr is) (inl d) =
-    let same : said ≡ said_of answer = said_same domain problem plan said answer right is in
+said_same : (rules : Rules) (domain problem plan : List ℕ) (said : Said) (answer : TextsAnswer) → IsAnswer rules domain problem plan answer → Validates rules domain problem plan said → said ≡ said_of answer
+said_same rules domain problem plan said answer right is = is.told ∙ ap said_of (answer_one rules domain problem plan is.answer answer is.right right)
+
+ended : (rules : Rules) (domain problem plan : List ℕ) (said : Said) (answer : TextsAnswer) (sink sink_now : SinkView) (status : Status) → IsAnswer rules domain problem plan answer
+    → Faulted said ⊎ Validates rules domain problem plan said → Delivered said status sink sink_now → Told answer sink sink_now status
+ended rules domain problem plan said answer sink sink_now status right (inl e) (inl d) = inl (d.0 ∙ e)
+ended rules domain problem plan said answer sink sink_now status right (inr is) (inl d) =
+    let same : said ≡ said_of answer = said_same rules domain problem plan said answer right is in
     inr (inr (d.0 ∙ ap (λ (s : Said). s.status) same, d.1 ∙ ap (λ (s : Said). sink_with sink s.text) same))
-ended domain problem plan said answer sink sink_now status right reply (inr d) = inr (inl d.0)
+ended rules domain problem plan said answer sink sink_now status right reply (inr d) = inr (inl d.0)
 
 pub answers_told : AnswersAreTold
-answers_told words files desk desk_now sink sink_now status domain problem plan answer told are right ran =
-    ended domain problem plan ran.said answer sink sink_now status right (reply_told words files desk desk_now ran.said domain problem plan told are ran.led) ran.delivered
+answers_told words files desk desk_now sink sink_now status limits domain problem plan answer told are right ran =
+    ended (rules_of limits) domain problem plan ran.said answer sink sink_now status right
+    (reply_told words files desk desk_now ran.said limits domain problem plan ran.led.request told are ran.led.asked ran.led.led) ran.delivered

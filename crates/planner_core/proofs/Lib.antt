@@ -1,4 +1,5 @@
 pub mod Led
+pub mod Asking
 pub mod Statuses
 pub mod Scans
 pub mod Fields

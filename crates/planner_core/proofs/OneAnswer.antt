@@ -2,6 +2,7 @@
 use Rattle.std.proofs.Common.{◌≡◌, ℕ, List, refl, sym, ap, ap₂, subst}
 use Rattle.first_path.specs.declared.model.Task.{Task}
 use Rattle.first_path.specs.declared.model.PlanLine.{PlanLine}
+use Rattle.first_path.specs.declared.model.Rules.{Rules}
 use Rattle.first_path.specs.declared.model.Verdict.{Verdict}
 use Rattle.first_path.specs.declared.model.Undefined.{Undefined}
 use Rattle.first_path.specs.declared.domains.Domain.{Domain as DomainRead}
@@ -18,7 +19,7 @@ use Rattle.first_path.proofs.Uniqueness.{verdicts-one}
 use Rattle.planner_core.specs.declared.reply.Role.{Role}
 use Rattle.planner_core.specs.declared.reply.Role.TheVariants.{Domain, Problem, Plan}
 use Rattle.planner_core.specs.PlanFile.{IsPlanFile}
-use Rattle.planner_core.specs.Answers.{AreRead, IsUnread, standard_rules, Answer, Unbuilt, Wide, Decided, IsAnswer}
+use Rattle.planner_core.specs.Answers.{AreRead, IsUnread, Answer, Unbuilt, Wide, Decided, IsAnswer}
 use Rattle.planner_core.proofs.PlanFiles.{one_plan_file}
 
 -- what is read of three texts
@@ -60,35 +61,35 @@ unread_one domain problem plan Plan Problem (other, (task, (made, _))) (read, (i
     absurd (none task (of_same problem read other (domain-one domain read other is made.domain_read) task made.problem_read))
 unread_one domain problem plan Plan Plan h k = refl
 
-wide_one : (t u : Task) (n m : ℕ) (l k : PlanLine) (p q : Undefined) → SameRead t u n m l k → IsFirstUndefined wide_limit (course standard_rules t l) p → IsFirstUndefined wide_limit (course standard_rules u k) q → Wide n p ≡ Wide m q
-wide_one t u n m l k p q same h j =
-    let other : IsFirstUndefined wide_limit (course standard_rules t l) q = subst (λ (x : Task). IsFirstUndefined wide_limit (course standard_rules x l) q) (sym same.task)
-    (subst (λ (x : PlanLine). IsFirstUndefined wide_limit (course standard_rules u x) q) (sym same.line) j) in
-    ap₂ Wide same.number (first_unmet-one (place_duties wide_limit (course standard_rules t l)) p q h other)
+wide_one : (rules : Rules) (t u : Task) (n m : ℕ) (l k : PlanLine) (p q : Undefined) → SameRead t u n m l k → IsFirstUndefined wide_limit (course rules t l) p → IsFirstUndefined wide_limit (course rules u k) q → Wide n p ≡ Wide m q
+wide_one rules t u n m l k p q same h j =
+    let other : IsFirstUndefined wide_limit (course rules t l) q = subst (λ (x : Task). IsFirstUndefined wide_limit (course rules x l) q) (sym same.task)
+    (subst (λ (x : PlanLine). IsFirstUndefined wide_limit (course rules u x) q) (sym same.line) j) in
+    ap₂ Wide same.number (first_unmet-one (place_duties wide_limit (course rules t l)) p q h other)
 
-decided_one : (t u : Task) (n m : ℕ) (l k : PlanLine) (v w : Verdict) → SameRead t u n m l k → IsRight standard_rules t l v → IsRight standard_rules u k w → Decided n v ≡ Decided m w
-decided_one t u n m l k v w same h j =
-    let other : IsRight standard_rules t l w = subst (λ (x : Task). IsRight standard_rules x l w) (sym same.task)
-    (subst (λ (x : PlanLine). IsRight standard_rules u x w) (sym same.line) j) in
-    ap₂ Decided same.number (verdicts-one standard_rules t l v w h other)
+decided_one : (rules : Rules) (t u : Task) (n m : ℕ) (l k : PlanLine) (v w : Verdict) → SameRead t u n m l k → IsRight rules t l v → IsRight rules u k w → Decided n v ≡ Decided m w
+decided_one rules t u n m l k v w same h j =
+    let other : IsRight rules t l w = subst (λ (x : Task). IsRight rules x l w) (sym same.task)
+    (subst (λ (x : PlanLine). IsRight rules u x w) (sym same.line) j) in
+    ap₂ Decided same.number (verdicts-one rules t l v w h other)
 
-not_both : (t u : Task) (n m : ℕ) (l k : PlanLine) (p : Undefined) → SameRead t u n m l k → IsFirstUndefined wide_limit (course standard_rules t l) p → AllDefined wide_limit (course standard_rules u k) → ⊥
-not_both t u n m l k p same h j =
-    let other : AllDefined wide_limit (course standard_rules t l) = subst (λ (x : Task). AllDefined wide_limit (course standard_rules x l)) (sym same.task)
-    (subst (λ (x : PlanLine). AllDefined wide_limit (course standard_rules u x)) (sym same.line) j) in
-    AllMet-no_first (place_duties wide_limit (course standard_rules t l)) p other h
+not_both : (rules : Rules) (t u : Task) (n m : ℕ) (l k : PlanLine) (p : Undefined) → SameRead t u n m l k → IsFirstUndefined wide_limit (course rules t l) p → AllDefined wide_limit (course rules u k) → ⊥
+not_both rules t u n m l k p same h j =
+    let other : AllDefined wide_limit (course rules t l) = subst (λ (x : Task). AllDefined wide_limit (course rules x l)) (sym same.task)
+    (subst (λ (x : PlanLine). AllDefined wide_limit (course rules u x)) (sym same.line) j) in
+    AllMet-no_first (place_duties wide_limit (course rules t l)) p other h
 
-pub answer_one : (domain problem plan : List ℕ) (a b : Answer) → IsAnswer domain problem plan a → IsAnswer domain problem plan b → a ≡ b
-answer_one domain problem plan (Unbuilt r) (Unbuilt s) h k = ap Unbuilt (unread_one domain problem plan r s h k)
-answer_one domain problem plan (Unbuilt r) (Wide m q) h (u, (k, (y, _))) = absurd (unread_not_read domain problem plan r u m k h y)
-answer_one domain problem plan (Unbuilt r) (Decided m w) h (u, (k, (y, _))) = absurd (unread_not_read domain problem plan r u m k h y)
-answer_one domain problem plan (Wide n p) (Unbuilt s) (t, (l, (x, _))) k = absurd (unread_not_read domain problem plan s t n l k x)
-answer_one domain problem plan (Decided n v) (Unbuilt s) (t, (l, (x, _))) k = absurd (unread_not_read domain problem plan s t n l k x)
-answer_one domain problem plan (Wide n p) (Wide m q) (t, (l, (x, h))) (u, (k, (y, j))) =
-    wide_one t u n m l k p q (read_one domain problem plan t u n m l k x y) h j
-answer_one domain problem plan (Wide n p) (Decided m w) (t, (l, (x, h))) (u, (k, (y, (j, _)))) =
-    absurd (not_both t u n m l k p (read_one domain problem plan t u n m l k x y) h j)
-answer_one domain problem plan (Decided n v) (Wide m q) (t, (l, (x, (h, _)))) (u, (k, (y, j))) =
-    absurd (not_both u t m n k l q (read_one domain problem plan u t m n k l y x) j h)
-answer_one domain problem plan (Decided n v) (Decided m w) (t, (l, (x, (_, h)))) (u, (k, (y, (_, j)))) =
-    decided_one t u n m l k v w (read_one domain problem plan t u n m l k x y) h j
+pub answer_one : (rules : Rules) (domain problem plan : List ℕ) (a b : Answer) → IsAnswer rules domain problem plan a → IsAnswer rules domain problem plan b → a ≡ b
+answer_one rules domain problem plan (Unbuilt r) (Unbuilt s) h k = ap Unbuilt (unread_one domain problem plan r s h k)
+answer_one rules domain problem plan (Unbuilt r) (Wide m q) h (u, (k, (y, _))) = absurd (unread_not_read domain problem plan r u m k h y)
+answer_one rules domain problem plan (Unbuilt r) (Decided m w) h (u, (k, (y, _))) = absurd (unread_not_read domain problem plan r u m k h y)
+answer_one rules domain problem plan (Wide n p) (Unbuilt s) (t, (l, (x, _))) k = absurd (unread_not_read domain problem plan s t n l k x)
+answer_one rules domain problem plan (Decided n v) (Unbuilt s) (t, (l, (x, _))) k = absurd (unread_not_read domain problem plan s t n l k x)
+answer_one rules domain problem plan (Wide n p) (Wide m q) (t, (l, (x, h))) (u, (k, (y, j))) =
+    wide_one rules t u n m l k p q (read_one domain problem plan t u n m l k x y) h j
+answer_one rules domain problem plan (Wide n p) (Decided m w) (t, (l, (x, h))) (u, (k, (y, (j, _)))) =
+    absurd (not_both rules t u n m l k p (read_one domain problem plan t u n m l k x y) h j)
+answer_one rules domain problem plan (Decided n v) (Wide m q) (t, (l, (x, (h, _)))) (u, (k, (y, j))) =
+    absurd (not_both rules u t m n k l q (read_one domain problem plan u t m n k l y x) j h)
+answer_one rules domain problem plan (Decided n v) (Decided m w) (t, (l, (x, (_, h)))) (u, (k, (y, (_, j)))) =
+    decided_one rules t u n m l k v w (read_one domain problem plan t u n m l k x y) h j

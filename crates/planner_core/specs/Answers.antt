@@ -1,6 +1,6 @@
 -- Believed: what is answered to a domain, a problem and a plan.
-use Rattle.std.specs.Prelude.{◌≡◌, ℕ, List, pos}
-use Rattle.rational.specs.Rational.{ratio}
+use Rattle.std.specs.Prelude.{◌≡◌, ℕ, List}
+use Rattle.command_words.specs.declared.requests.Limits.{Limits}
 use Rattle.first_path.specs.declared.model.Task.{Task}
 use Rattle.first_path.specs.declared.model.PlanLine.{PlanLine}
 use Rattle.first_path.specs.declared.model.Rules.{Rules}
@@ -28,9 +28,9 @@ pub data Answer : Type 0 where
   -- the plan is valid or not
   Decided : (number : ℕ) → Verdict → Answer
 
--- epsilon is 1/1000, and the horizon 1,000,000
-abbrev pub standard_rules : Rules
-standard_rules = record { epsilon = ratio (pos 1) 1000; horizon = ratio (pos 1000000) 1 }
+-- the least distance and the latest time that the words set
+abbrev pub rules_of : Limits → Rules
+rules_of limits = record { epsilon = limits.epsilon; horizon = limits.horizon }
 
 -- The domain and the problem make this task.
 pub record MakeTask (domain problem : List ℕ) (read : DomainRead) (task : Task) : Type 0 where
@@ -53,17 +53,17 @@ IsUnread domain problem plan Plan =
     (read : DomainRead) × ((task : Task) × (MakeTask domain problem read task
     × ((number : ℕ) (line : PlanLine) → ¬ (IsPlanFile read.action.items plan number line))))
 
--- what is answered is right: the first file that is not read, the first undefined place of the plan's course, or the
--- verdict on the plan
-abbrev pub IsAnswer : List ℕ → List ℕ → List ℕ → Answer → Type 0
-IsAnswer domain problem plan (Unbuilt role) = IsUnread domain problem plan role
-IsAnswer domain problem plan (Wide number place) =
+-- what is answered is right under these rules: the first file that is not read, the first undefined place of the plan's
+-- course, or the verdict on the plan
+abbrev pub IsAnswer : Rules → List ℕ → List ℕ → List ℕ → Answer → Type 0
+IsAnswer rules domain problem plan (Unbuilt role) = IsUnread domain problem plan role
+IsAnswer rules domain problem plan (Wide number place) =
     (task : Task) × ((line : PlanLine) × (AreRead domain problem plan task number line
-    × IsFirstUndefined wide_limit (course standard_rules task line) place))
-IsAnswer domain problem plan (Decided number verdict) =
+    × IsFirstUndefined wide_limit (course rules task line) place))
+IsAnswer rules domain problem plan (Decided number verdict) =
     (task : Task) × ((line : PlanLine) × (AreRead domain problem plan task number line
-    × (AllDefined wide_limit (course standard_rules task line)
-    × IsRight standard_rules task line verdict)))
+    × (AllDefined wide_limit (course rules task line)
+    × IsRight rules task line verdict)))
 
 -- what is answered, as a reply
 abbrev pub said_of : Answer → Said
@@ -72,7 +72,7 @@ said_of (Wide number place) = undefined_said number place
 said_of (Decided number verdict) = verdict_said number verdict
 
 -- the reply is a right answer to the texts
-pub record Validates (domain problem plan : List ℕ) (said : Said) : Type 0 where
+pub record Validates (rules : Rules) (domain problem plan : List ℕ) (said : Said) : Type 0 where
   pub answer : Answer
-  pub right : IsAnswer domain problem plan answer
+  pub right : IsAnswer rules domain problem plan answer
   pub told : said ≡ said_of answer

@@ -1,53 +1,55 @@
 -- Believed: what a printed verdict tells: the plan in the files is valid and has this cost, or is not, for this reason.
-use Rattle.std.specs.Prelude.{◌≡◌, ℕ, List, ◌++◌, codes, Option, Some, Ok}
+use Rattle.std.specs.Prelude.{◌≡◌, ℕ, List, ◌++◌, codes, Option, Ok}
+use Rattle.command_words.specs.Requests.{FileNames}
+use Rattle.command_words.specs.declared.requests.Limits.{Limits}
 use Rattle.outside.specs.Fetching.{Files, MayAnswer}
 use Rattle.outside.specs.Putting.{SinkView, sink_with}
 use Rattle.plan_text.specs.Numbers.{number_text}
 use Rattle.first_path.specs.declared.model.Task.{Task}
 use Rattle.first_path.specs.declared.model.PlanLine.{PlanLine}
 use Rattle.first_path.specs.declared.model.Reason.{Reason}
+use Rattle.first_path.specs.declared.model.Rules.{Rules}
 use Rattle.first_path.specs.Validity.{IsValid, IsFirstReason, cost}
 use Rattle.planner_core.specs.Validations.{reason_text}
-use Rattle.planner_core.specs.Works.{Validate, request_of}
-use Rattle.planner_core.specs.Answers.{AreRead, standard_rules}
+use Rattle.planner_core.specs.Works.{Validate, AskFor}
+use Rattle.planner_core.specs.Answers.{AreRead, rules_of}
 
--- The words ask for a validation, and these are the bytes of the three files that they name.
-pub record AreFetched (words : List (List ℕ)) (files : Option Files) (domain problem plan : List ℕ)
+-- The words ask for a validation within these limits, and these are the bytes of the three files that they name.
+pub record AreFetched (words : List (List ℕ)) (files : Option Files) (limits : Limits) (domain problem plan : List ℕ)
     : Type 0 where
-  pub domain_name : List ℕ
-  pub problem_name : List ℕ
-  pub plan_name : List ℕ
-  pub asked : request_of words ≡ Some (Validate domain_name problem_name plan_name)
-  pub domain_fetched : MayAnswer files domain_name (Ok domain)
-  pub problem_fetched : MayAnswer files problem_name (Ok problem)
-  pub plan_fetched : MayAnswer files plan_name (Ok plan)
+  pub names : FileNames
+  pub asked : AskFor words (Validate names limits)
+  pub domain_fetched : MayAnswer files names.domain (Ok domain)
+  pub problem_fetched : MayAnswer files names.problem (Ok problem)
+  pub plan_fetched : MayAnswer files names.third (Ok plan)
 
 -- The texts are those of a task and a plan that is valid, and the reply tells its cost.
-pub record TellsValid (domain problem plan text : List ℕ) : Type 0 where
+pub record TellsValid (rules : Rules) (domain problem plan text : List ℕ) : Type 0 where
   pub task : Task
   pub number : ℕ
   pub line : PlanLine
   pub read : AreRead domain problem plan task number line
-  pub valid : IsValid standard_rules task line
+  pub valid : IsValid rules task line
   pub told : text ≡ codes "valid cost " ++ number_text (cost line) ++ codes "\n"
 
 -- The texts are those of a task and a plan that is not valid, and the reply tells the first reason.
-pub record TellsInvalid (domain problem plan text : List ℕ) : Type 0 where
+pub record TellsInvalid (rules : Rules) (domain problem plan text : List ℕ) : Type 0 where
   pub task : Task
   pub number : ℕ
   pub line : PlanLine
   pub reason : Reason
   pub read : AreRead domain problem plan task number line
-  pub first : IsFirstReason standard_rules task line reason
+  pub first : IsFirstReason rules task line reason
   pub told : text ≡ reason_text number reason ++ codes "\n"
 
--- A reply that tells so of the files was printed whole.
-pub record Printed (Tells : List ℕ → List ℕ → List ℕ → List ℕ → Type 0) (words : List (List ℕ))
+-- A reply that tells so of the files, under the rules that the words set, was printed whole.
+pub record Printed (Tells : Rules → List ℕ → List ℕ → List ℕ → List ℕ → Type 0) (words : List (List ℕ))
     (files : Option Files) (sink sink_now : SinkView) : Type 0 where
+  pub limits : Limits
   pub domain : List ℕ
   pub problem : List ℕ
   pub plan : List ℕ
   pub text : List ℕ
-  pub fetched : AreFetched words files domain problem plan
-  pub tells : Tells domain problem plan text
+  pub fetched : AreFetched words files limits domain problem plan
+  pub tells : Tells (rules_of limits) domain problem plan text
   pub printed : sink_now ≡ sink_with sink text

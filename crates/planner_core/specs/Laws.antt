@@ -4,16 +4,18 @@ use Rattle.outside.specs.Fetching.{Files, DeskView}
 use Rattle.outside.specs.Putting.{SinkView, sink_with}
 use Rattle.planner_core.specs.declared.status.Status.{Status}
 use Rattle.planner_core.specs.declared.status.Status.TheVariants.{ReadFault, WriteFault}
+use Rattle.command_words.specs.declared.requests.Limits.{Limits}
 use Rattle.first_path.specs.declared.model.PlanLine.{PlanLine}
+use Rattle.first_path.specs.declared.model.Rules.{Rules}
 use Rattle.planner_core.specs.PlanFile.{IsPlanFile}
-use Rattle.planner_core.specs.Answers.{Answer, IsAnswer, said_of}
+use Rattle.planner_core.specs.Answers.{Answer, IsAnswer, said_of, rules_of}
 use Rattle.planner_core.specs.Sessions.{Ran}
 use Rattle.planner_core.specs.Headline.{AreFetched}
 
--- three texts have one right answer at most
+-- three texts have one right answer at most, whatever the rules are
 abbrev pub AnswersAreOne : Type 0
-AnswersAreOne = (domain problem plan : List ℕ) (a b : Answer)
-    → IsAnswer domain problem plan a → IsAnswer domain problem plan b → a ≡ b
+AnswersAreOne = (rules : Rules) (domain problem plan : List ℕ) (a b : Answer)
+    → IsAnswer rules domain problem plan a → IsAnswer rules domain problem plan b → a ≡ b
 
 -- A run ended with a fault of the desk or the sink, or told this answer.
 abbrev pub Told : Answer → SinkView → SinkView → Status → Type 0
@@ -25,9 +27,9 @@ Told answer sink sink_now status =
 abbrev pub AnswersAreTold : Type 0
 AnswersAreTold =
     (words : List (List ℕ)) (files : Files) (desk desk_now : DeskView) (sink sink_now : SinkView)
-    (status : Status) (domain problem plan : List ℕ) (answer : Answer)
-    → desk.files ≡ Some files → AreFetched words (Some files) domain problem plan
-    → IsAnswer domain problem plan answer → Ran words desk desk_now sink sink_now status
+    (status : Status) (limits : Limits) (domain problem plan : List ℕ) (answer : Answer)
+    → desk.files ≡ Some files → AreFetched words (Some files) limits domain problem plan
+    → IsAnswer (rules_of limits) domain problem plan answer → Ran words desk desk_now sink sink_now status
     → Told answer sink sink_now status
 
 -- a text is one plan file at most: it has one line with one number, which tells one start and one duration

@@ -8,7 +8,7 @@ use Rattle.planner_core.specs.declared.status.Status.{Status}
 use Rattle.planner_core.specs.declared.status.Status.TheVariants.{WriteFault}
 use Rattle.planner_core.specs.declared.reply.Role.{Role}
 use Rattle.planner_core.specs.Replies.{Said, read_fault, too_long}
-use Rattle.planner_core.specs.Works.{Work, Ends, Asks, work_of}
+use Rattle.planner_core.specs.Works.{Request, Work, Ends, Asks, AreFor, work_of}
 
 -- There is one answer for each fetch of the work, up to the first that hands over no bytes; each is one that the desk
 -- may give.
@@ -55,6 +55,17 @@ abbrev pub Came : Work → DeskView → DeskView → Option Said → Type 0
 Came work old new None = new ≡ old
 Came work old new (Some said) = LedTo work old new said
 
+-- The words ask for this, and some answers of its fetches lead to this reply.
+pub record LedByWords (words : List (List ℕ)) (old new : DeskView) (said : Said) : Type 0 where
+  pub request : Option Request
+  pub asked : AreFor words request
+  pub led : LedTo (work_of request) old new said
+
+-- The words lead to this reply, or memory was refused and the desk is as it was.
+abbrev pub CameByWords : List (List ℕ) → DeskView → DeskView → Option Said → Type 0
+CameByWords words old new None = new ≡ old
+CameByWords words old new (Some said) = LedByWords words old new said
+
 -- The reply was written whole in one piece and has given its status, or the sink failed at that piece and took a
 -- prefix of it.
 abbrev pub Delivered : Said → Status → SinkView → SinkView → Type 0
@@ -66,7 +77,7 @@ Delivered said status old new =
 pub record Ran (words : List (List ℕ)) (desk desk_now : DeskView) (sink sink_now : SinkView)
     (status : Status) : Type 0 where
   pub said : Said
-  -- some answers of the fetches lead to this reply
-  pub led : LedTo (work_of words) desk desk_now said
+  -- what the words ask for and some answers of the fetches lead to this reply
+  pub led : LedByWords words desk desk_now said
   -- and it was written, or a prefix of it
   pub delivered : Delivered said status sink sink_now

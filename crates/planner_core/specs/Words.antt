@@ -1,14 +1,12 @@
--- Believed: the words of the command line as contracts see them.
-use Rattle.std.specs.Prelude.{ℕ, List, map, String, string_bytes}
-use Rattle.std.specs.declared.alloc.Global.{Global}
+-- Private: the requests that commands stand for.
 use Rattle.planner_core.specs.declared.words.Command.{Command}
 use Rattle.planner_core.specs.declared.words.Command.TheVariants as command
+use Rattle.command_words.specs.Requests.{files_seen}
+use Rattle.command_words.specs.declared.requests.Limits.{Limits}
 use Rattle.planner_core.specs.Works.{Request, Validate}
 
--- the bytes of each word
-abbrev pub texts : List (String Global) → List (List ℕ)
-texts words = map string_bytes words
-
--- the request that a command stands for
 abbrev pub asked : Command → Request
-asked (command.Validate domain problem plan) = Validate domain.now problem.now plan.now
+asked (command.Validate files limits) = Validate (files_seen files) limits
+
+abbrev pub limits_of : Request → Limits
+limits_of (Validate files limits) = limits

@@ -1,17 +1,21 @@
 //! A run of the program: the words, the fetches, the reply, and its delivery.
 
-ghost use Rattle.std.specs.Prelude.{◌≡◌, ◌≢◌, ◌⊎◌, ◌↔◌, ◌+◌, ◌<◌, ◌^◌, ◌-◌, None, Contains};
-ghost use Rattle.planner_core.specs.Works.{work_of, validate_work, request_of, file_words};
-ghost use Rattle.planner_core.specs.Words.{texts};
-ghost use Rattle.planner_core.specs.Sessions.{Came, Ran};
+ghost use Rattle.std.specs.Prelude.{◌≡◌, ◌≢◌, ◌⊎◌, ◌↔◌, ◌+◌, ◌<◌, ◌^◌, ◌-◌, None};
+ghost use Rattle.rational.specs.Rational.{zeroℚ, ◌<ℚ◌};
+ghost use Rattle.command_words.specs.Grammar.{texts};
+ghost use Rattle.command_words.specs.Requests.{files_seen};
+ghost use Rattle.planner_core.specs.Works.{AreFor, IsFileAsked, work_of_request, validate_work};
+ghost use Rattle.planner_core.specs.Words.{asked, limits_of};
+ghost use Rattle.planner_core.specs.Sessions.{Came, CameByWords, Ran};
 ghost use Rattle.planner_core.specs.Stops.{outcome, reply_said};
 ghost use Rattle.planner_core.specs.Headline.{Printed, TellsValid, TellsInvalid};
 
 use crate::fetching::{Stop, fetch_file};
 use crate::reply::{Reply, Role, too_long_reply, usage_reply};
 use crate::status::Status;
-use crate::validation::validation_reply;
-use crate::words::{Command, read_words};
+use crate::validation::{rules_of, validation_reply};
+use crate::words::{Command, read_command};
+use command_words::{Files, Limits};
 use exact_lin::NoMemory;
 use outside::{Desk, Failed, Sink};
 use std::alloc::Global;
@@ -19,13 +23,13 @@ use std::alloc::Global;
 /// Runs the program: from the words of the command line, without the program's name, to the reply
 /// in the sink, which goes out whole in one put.
 ///
-/// So far `validate DOMAIN PROBLEM PLAN` is the one command, and reads tasks of one fluent and one
-/// durative action.
+/// So far `validate DOMAIN PROBLEM PLAN`, with `--epsilon` and `--horizon`, is the one command, and reads tasks of one
+/// fluent and one durative action.
 pub fn run<D: Desk, K: Sink>(alloc: Global, words: &[String], desk: &mut D, sink: &mut K) -> Status
     requires desk_count { (D.told desk.old).faults < 2 ^ 64 - 1 }
     requires sink_count { (K.told sink.old).puts < 2 ^ 64 - 1 }
 
-    // Some answers of the fetches lead to a reply. It was written whole, or the sink failed.
+    // What the words ask for, and some answers of its fetches, lead to a reply. It was written whole, or the sink failed.
     ensures ran { result ≢ Status.NoMemory → Ran (texts words.now)
         (D.told desk.old) (D.told desk.new) (K.told sink.old) (K.told sink.new) result }
 
@@ -43,15 +47,15 @@ pub fn run<D: Desk, K: Sink>(alloc: Global, words: &[String], desk: &mut D, sink
     // The table of answers, a row a clause.
     ensures one_put { result ≢ Status.NoMemory →
         (K.told sink.new).puts ≡ (K.told sink.old).puts + 1 }
-    ensures usage { result ≡ Status.Usage → request_of (texts words.now) ≡ None }
-    ensures not_accepted { request_of (texts words.now) ≡ None →
+    ensures usage { result ≡ Status.Usage → AreFor (texts words.now) None }
+    ensures not_accepted { AreFor (texts words.now) None →
         (result ≡ Status.Usage) ⊎ (result ≡ Status.WriteFault)
         ⊎ (result ≡ Status.NoMemory) }
     ensures read_fault { (result ≡ Status.ReadFault)
         ↔ ((D.told desk.old).faults < (D.told desk.new).faults)
         × ((K.told sink.new).faults ≡ (K.told sink.old).faults) }
     ensures fault_name { (D.told desk.old).faults < (D.told desk.new).faults
-        → Contains (file_words (request_of (texts words.now))) (D.told desk.new).fault_name }
+        → IsFileAsked (texts words.now) (D.told desk.new).fault_name }
     ensures write_fault { (result ≡ Status.WriteFault)
         ↔ ((K.told sink.old).faults < (K.told sink.new).faults) }
 {
@@ -67,7 +71,7 @@ pub fn run<D: Desk, K: Sink>(alloc: Global, words: &[String], desk: &mut D, sink
 // The reply to the words. Where a fetch failed it says so, and want of memory leaves no fault.
 fn reply_to<D: Desk>(alloc: Global, words: &[String], desk: &mut D) -> Result<Reply, NoMemory>
     requires { (D.told desk.old).faults < 2 ^ 64 - 1 }
-    ensures { Came (work_of (texts words.now))
+    ensures { CameByWords (texts words.now)
         (D.told desk.old) (D.told desk.new) (reply_said result) }
 {
     match perform(alloc, words, desk) {
@@ -81,18 +85,25 @@ fn reply_to<D: Desk>(alloc: Global, words: &[String], desk: &mut D) -> Result<Re
 // Does what the words ask for.
 fn perform<D: Desk>(alloc: Global, words: &[String], desk: &mut D) -> Result<Reply, Stop>
     requires { (D.told desk.old).faults < 2 ^ 64 - 1 }
-    ensures { Came (work_of (texts words.now))
+    ensures { CameByWords (texts words.now)
         (D.told desk.old) (D.told desk.new) (outcome result) }
 {
-    match read_words(words) {
-        None => Ok(usage_reply(alloc)?),
-        Some(
-            Command::Validate {
-                domain,
-                problem,
-                plan,
-            },
-        ) => validate(alloc, desk, domain, problem, plan),
+    match read_command(alloc, words) {
+        Err(NoMemory) => Err(Stop::Memory),
+        Ok(None) => Ok(usage_reply(alloc)?),
+        Ok(Some(command)) => carry_out(alloc, desk, &command),
+    }
+}
+
+// Does what a command asks for.
+fn carry_out<D: Desk>(alloc: Global, desk: &mut D, command: &Command<'_>) -> Result<Reply, Stop>
+    requires faults { (D.told desk.old).faults < 2 ^ 64 - 1 }
+    requires epsilon { zeroℚ <ℚ (limits_of (asked command.now)).epsilon }
+    ensures { Came (work_of_request (asked command.now))
+        (D.told desk.old) (D.told desk.new) (outcome result) }
+{
+    match command {
+        Command::Validate { files, limits } => validate(alloc, desk, *files, *limits),
     }
 }
 
@@ -100,16 +111,17 @@ fn perform<D: Desk>(alloc: Global, words: &[String], desk: &mut D) -> Result<Rep
 fn validate<D: Desk>(
     alloc: Global,
     desk: &mut D,
-    domain: &str,
-    problem: &str,
-    plan: &str,
+    files: Files<'_>,
+    limits: Limits,
 ) -> Result<Reply, Stop>
-    requires { (D.told desk.old).faults < 2 ^ 64 - 1 }
-    ensures { Came (validate_work domain.now problem.now plan.now)
+    requires faults { (D.told desk.old).faults < 2 ^ 64 - 1 }
+    requires epsilon { zeroℚ <ℚ limits.epsilon }
+    ensures { Came (validate_work (files_seen files.entry) limits)
         (D.told desk.old) (D.told desk.new) (outcome result) }
 {
-    let domain_text = fetch_file(alloc, desk, Role::Domain, domain)?;
-    let problem_text = fetch_file(alloc, desk, Role::Problem, problem)?;
-    let plan_text = fetch_file(alloc, desk, Role::Plan, plan)?;
-    Ok(validation_reply(alloc, &domain_text, &problem_text, &plan_text)?)
+    let domain_text = fetch_file(alloc, desk, Role::Domain, files.domain)?;
+    let problem_text = fetch_file(alloc, desk, Role::Problem, files.problem)?;
+    let plan_text = fetch_file(alloc, desk, Role::Plan, files.third)?;
+    let rules = rules_of(limits);
+    Ok(validation_reply(alloc, &rules, &domain_text, &problem_text, &plan_text)?)
 }

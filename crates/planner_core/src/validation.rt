@@ -2,12 +2,14 @@
 
 ghost use Rattle.std.specs.Prelude.{◌≡◌, ◌++◌, ◌<◌, ◌^◌, ◌-◌, length, IfOk, OnOk, codes};
 ghost use Rattle.plan_text.specs.Numbers.{number_text};
-ghost use Rattle.planner_core.specs.Answers.{Validates};
+ghost use Rattle.rational.specs.Rational.{zeroℚ, ◌<ℚ◌};
+ghost use Rattle.planner_core.specs.Answers.{rules_of, Validates};
 ghost use Rattle.planner_core.specs.Validations.{reason_text, verdict_said, undefined_said, unbuilt_said};
 
 use crate::plan_file::read_plan_file;
 use crate::reply::{Reply, Role};
 use crate::status::Status;
+use command_words::Limits;
 use exact_lin::{Fraction, NoMemory};
 use first_path::{Reason, Rules, Undefined, Verdict, read_domain, read_problem, validate};
 use plan_text::print_number;
@@ -93,10 +95,21 @@ fn unbuilt_reply(alloc: Global, role: Role) -> Result<Reply, NoMemory>
     Ok(Reply::new(Status::Refused, text.into_bytes()))
 }
 
-/// The reply to a validation of these texts: the first of them that is not read, or what the
+/// The rules that the limits set.
+pub fn rules_of(limits: Limits) -> Rules
+    ensures { result ≡ rules_of limits }
+{
+    Rules {
+        epsilon: limits.epsilon,
+        horizon: limits.horizon,
+    }
+}
+
+/// The reply to a validation of these texts under these rules: the first of them that is not read, or what the
 /// validator says of the plan.
 pub fn validation_reply(
     alloc: Global,
+    rules: &Rules,
     domain: &[u8],
     problem: &[u8],
     plan: &[u8],
@@ -104,7 +117,8 @@ pub fn validation_reply(
     requires domain { length domain.now < 2 ^ 32 }
     requires problem { length problem.now < 2 ^ 32 }
     requires plan { length plan.now < 2 ^ 32 - 1 }
-    ensures { IfOk result (Validates domain.now problem.now plan.now) }
+    requires epsilon { zeroℚ <ℚ rules.now.epsilon }
+    ensures { IfOk result (Validates rules.now domain.now problem.now plan.now) }
 {
     let Some(read) = read_domain(alloc, domain)? else {
         return unbuilt_reply(alloc, Role::Domain);
@@ -115,7 +129,7 @@ pub fn validation_reply(
     let Some((line, started)) = read_plan_file(plan, &read.action) else {
         return unbuilt_reply(alloc, Role::Plan);
     };
-    match validate(&Rules::standard(), &task, &started) {
+    match validate(rules, &task, &started) {
         Ok(verdict) => verdict_reply(alloc, line, verdict),
         Err(place) => undefined_reply(alloc, line, place),
     }

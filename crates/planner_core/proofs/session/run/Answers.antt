@@ -1,5 +1,5 @@
 use Rattle.std.proofs.Common.{sym, ◌∙◌}
-use Rattle.planner_core.specs.Words.{texts}
+use Rattle.command_words.specs.Grammar.{texts}
 use Rattle.planner_core.proofs.Statuses.{facts_of}
 use Rattle.planner_core.proofs.Headlines.{prints_valid, prints_invalid}
 use Rattle.planner_core.proofs.session.run.Goals as goal

@@ -1,5 +1,5 @@
 use Rattle.std.proofs.Common.{◌≡◌, rules, ◌∙◌}
-use Rattle.planner_core.specs.Answers.{Validates}
+use Rattle.planner_core.specs.Answers.{rules_of, Validates}
 use Rattle.planner_core.specs.Stops.{outcome, stop_said, why_of}
 use Rattle.planner_core.proofs.Led.{came_stopped, came_on, led_on, led_last}
 use Rattle.planner_core.proofs.session.validate.Goals as goal
@@ -36,8 +36,8 @@ returns g c =
     let first = c.in_ok-domain_text.ensures in
     let second = c.in_ok-problem_text.ensures in
     let third = c.in_ok-plan_text.ensures in
-    let told : Validates c.in_ok-domain_text.domain_text.items c.in_ok-problem_text.problem_text.items c.in_ok-plan_text.plan_text.items c.in_ok-validation_reply.field-0 = search rules in
+    let told : Validates (rules_of c.args.limits) c.in_ok-domain_text.domain_text.items c.in_ok-problem_text.problem_text.items c.in_ok-plan_text.plan_text.items c.in_ok-validation_reply.field-0 = search rules in
     led_on _ _ _ _ _ _ _ _ first.answer first.after
     (led_on _ _ _ _ _ _ _ _ second.answer second.after
     (led_on _ _ _ _ _ _ _ _ third.answer third.after
-    (led_last (Validates c.in_ok-domain_text.domain_text.items c.in_ok-problem_text.problem_text.items c.in_ok-plan_text.plan_text.items) _ _ told)))
+    (led_last (Validates (rules_of c.args.limits) c.in_ok-domain_text.domain_text.items c.in_ok-problem_text.problem_text.items c.in_ok-plan_text.plan_text.items) _ _ told)))
