@@ -1,7 +1,9 @@
 //! A desk and a sink in memory that fail where they are told to, and those over the machine.
 
 use crate::host::read_whole;
-use crate::{Desk, Fetch, HostDesk, HostSink, LONGEST_FILE, MemoryDesk, MemorySink, Sink, machine_words};
+use crate::{
+    Desk, Fetch, HostDesk, HostSink, LONGEST_FILE, MemoryDesk, MemorySink, Sink, machine_words,
+};
 use std::alloc::{AllocError, Global};
 use std::env::{Env, FillError};
 use std::io::{ErrorKind, Read};

@@ -15,7 +15,12 @@ enum Word {
 const FIRST_ROOM: usize = 256;
 
 // The bytes of a word that fits this room.
-fn fill<R: Env>(alloc: Global, rt: &R, place: usize, room: usize) -> Result<Result<Vec<u8>, FillError>, AllocError> {
+fn fill<R: Env>(
+    alloc: Global,
+    rt: &R,
+    place: usize,
+    room: usize,
+) -> Result<Result<Vec<u8>, FillError>, AllocError> {
     let mut bytes = vec![in alloc; 0u8; room]?;
     match rt.arg(place, &mut bytes) {
         Ok(length) => {

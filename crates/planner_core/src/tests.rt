@@ -95,10 +95,26 @@ fn words_are_answered(rt: HostRuntime) -> Result<(), Fail> {
 fn options_are_rules(rt: HostRuntime) -> Result<(), Fail> {
     let alloc = rt.alloc();
     for (words, code, text) in [
-        ("validate --horizon 5 tank.pddl tank_problem.pddl tank.plan", 0, "valid cost 5.000\n"),
-        ("validate --horizon 4.999 tank.pddl tank_problem.pddl tank.plan", 1, "invalid time line 1\n"),
-        ("validate tank.pddl tank_problem.pddl tank.plan --epsilon=5", 0, "valid cost 5.000\n"),
-        ("validate tank.pddl tank_problem.pddl tank.plan --epsilon=26/5", 1, "invalid duration line 1\n"),
+        (
+            "validate --horizon 5 tank.pddl tank_problem.pddl tank.plan",
+            0,
+            "valid cost 5.000\n",
+        ),
+        (
+            "validate --horizon 4.999 tank.pddl tank_problem.pddl tank.plan",
+            1,
+            "invalid time line 1\n",
+        ),
+        (
+            "validate tank.pddl tank_problem.pddl tank.plan --epsilon=5",
+            0,
+            "valid cost 5.000\n",
+        ),
+        (
+            "validate tank.pddl tank_problem.pddl tank.plan --epsilon=26/5",
+            1,
+            "invalid duration line 1\n",
+        ),
     ] {
         let desk = desk_of(alloc, [DOMAIN, PROBLEM, PLAN], "", 0)?;
         assert!(rt; replies(alloc, words, desk, code, text)?, "{words}");

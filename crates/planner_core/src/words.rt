@@ -22,7 +22,10 @@ pub fn read_command<'a>(alloc: Global, words: &'a [String]) -> Result<Option<Com
     match read_words(alloc, words) {
         Err(NoMemory) => Err(NoMemory),
         Ok(None) => Ok(None),
-        Ok(Some(Request::Validate { files, limits })) => Ok(Some(Command::Validate { files, limits })),
+        Ok(Some(Request::Validate { files, limits })) => Ok(Some(Command::Validate {
+            files,
+            limits,
+        })),
         Ok(Some(Request::Schedule { .. })) => Ok(None),
     }
 }
