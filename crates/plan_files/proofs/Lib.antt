@@ -10,3 +10,9 @@ pub mod Found
 pub mod LineDuties
 pub mod Progress
 pub mod Trip
+pub mod OrdersIn
+pub mod KnownSteps
+pub mod Counts
+pub mod OrderDuties
+pub mod OrderProgress
+pub mod OrdersAreOne

@@ -14,7 +14,7 @@ use Rattle.task_types.specs.Plan.{Plan, action_of}
 use Rattle.timed_meaning.specs.TimedPlans.{EndIsDefined}
 use Rattle.plan_text.proofs.ReadingLemmas.{one_number}
 use Rattle.plan_files.specs.declared.faults.LineKind.{LineKind}
-use Rattle.plan_files.specs.declared.faults.LineKind.TheVariants.{Shape, Number, Name, Unground, Limit, Wide}
+use Rattle.plan_files.specs.declared.faults.LineKind.TheVariants.{Shape, Number, Name, Unground, Order, Limit, Wide}
 use Rattle.plan_files.specs.declared.faults.LineFault.{LineFault}
 use Rattle.plan_files.specs.declared.faults.LineFault.TheVariants.{At, Memory}
 use Rattle.plan_files.specs.declared.plan_lines.LineParts.{LineParts}
@@ -101,6 +101,7 @@ module _ (task : TaskParts) (number : ℕ) (line : List ℕ) where
       at_kind Number m r = absurd r
       at_kind Name m r = subst (λ i. IsFirstUnmet duties (i, Name)) (sym r.0) (refused_name r.1)
       at_kind Unground m r = subst (λ i. IsFirstUnmet duties (i, Unground)) (sym r.0) (refused_unground r.1 r.2)
+      at_kind (Order f) m r = absurd r
       at_kind Limit m r = absurd r
       at_kind Wide m r = absurd r
 
@@ -142,6 +143,7 @@ module _ (task : TaskParts) (old new : Plan) (line : ℕ × List ℕ) (p : LineP
   at_kind_pushed Number m h = absurd h
   at_kind_pushed Name m h = absurd h
   at_kind_pushed Unground m h = absurd h
+  at_kind_pushed (Order f) m h = absurd h
   at_kind_pushed Limit m h = IsFirstUnmet-right (form_duties task line) (end_duties task (length old) line) (m, Limit) r.0 (inl (h.1, ap (λ i. (i, Limit)) (sym h.0)))
   at_kind_pushed Wide m h = IsFirstUnmet-right (form_duties task line) (end_duties task (length old) line) (m, Wide) r.0 (inr (h.1, inl ((λ d. h.2 (d r.1.0 (line_of p line.0) r.1.1 r.1.2)), ap (λ i. (i, Wide)) (sym h.0))))
 

@@ -7,10 +7,16 @@ pub mod WordsSeen
 pub mod WordScan
 pub mod Names
 pub mod PlanFiles
-pub mod Laws
+pub mod OrderWords
+pub mod OrdersSeen
+pub mod OrderFiles
+pub mod OrderScan
+pub mod OrderParts
+pub mod BegunOrders
 pub mod Finding
 pub mod Entries
 pub mod Places
 pub mod Known
 pub mod LineParts
 pub mod ExampleTask
+pub mod Laws

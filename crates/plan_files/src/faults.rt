@@ -1,5 +1,7 @@
 //! Why a plan file or an ordering file was refused.
 
+use ordering::OrderFault;
+
 /// What is wrong with a line, in the order in which it is asked.
 #[derive(Clone, Copy, Debug, PartialEq, Eq)]
 pub enum LineKind {
@@ -14,6 +16,9 @@ pub enum LineKind {
 
     /// Grounding dropped the action.
     Unground,
+
+    /// The ordering refuses what the line puts, or isn't closed.
+    Order(OrderFault),
 
     /// There are too many lines.
     Limit,

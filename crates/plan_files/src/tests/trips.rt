@@ -1,12 +1,13 @@
-//! Plan files of a small task: `go` takes time and one of two objects, of which grounding kept the first; `stop` takes
+//! Plan files and ordering files of a small task: `go` takes time and one of two objects, of which grounding kept the first; `stop` takes
 //! neither.
 
 ghost use Rattle.std.specs.Prelude.{◌≡◌, ◌∷◌, [], ◌<◌, ◌-◌, ◌^◌, length, IfOk};
 ghost use Rattle.task_types.specs.Examples.{always_true as always, nothing as no_effect, at_end, at_once, at_start, no_metric};
 ghost use Rattle.plan_files.specs.ExampleTask.{go_somewhere, go_to_a, trip};
 
-use crate::{LineFault, LineKind, read_plan};
+use crate::{LineFault, LineKind, read_order, read_plan};
 use exact_lin::{ActionId, Form, Fraction, Id, NoMemory, Scalar, SnapId};
+use ordering::OrderFault;
 use sqlite_items::Items;
 use std::alloc::Global;
 use task_types::{Action, Condition, Effect, Metric, Schema, Snap, SnapKind, Task, TaskParts};
@@ -298,6 +299,140 @@ fn counts_lines(alloc: Global, task: &Task) -> bool {
     match stops(alloc, 4096, b"; the last") {
         Ok(text) => has_lines(alloc, task, text.as_slice(), 4096),
         Err(_) => false,
+    }
+}
+
+// Whether a text is read as an ordering of so many steps and extra pairs.
+fn has_steps(alloc: Global, task: &Task, text: &[u8], steps: usize, pairs: usize) -> bool {
+    if text.len() > 1048576 {
+        return false;
+    }
+    match read_order(alloc, task, text) {
+        Ok(order) => order.steps().len() == steps && order.extra().len() == pairs,
+        Err(_) => false,
+    }
+}
+
+// Whether a text is refused so as an ordering.
+fn is_no_order(alloc: Global, task: &Task, text: &[u8], fault: LineFault) -> bool {
+    if text.len() > 1048576 {
+        return false;
+    }
+    match read_order(alloc, task, text) {
+        Ok(_) => false,
+        Err(found) => found == fault,
+    }
+}
+
+fn reads_orders(alloc: Global, task: &Task) -> bool {
+    let cases: [(&[u8], usize, usize); 5] = [
+        (b"", 0, 0),
+        (b"start (go a)\n\n end(GO A) ; here", 2, 0),
+        (b"do (stop)\ndo (Stop)", 2, 0),
+        (b"do (stop)\ndo (stop)\npair 1 2\npair 01 2", 2, 2),
+        (b"start (go a)\ndo (stop)\nend (go a)\npair 1 3", 3, 1),
+    ];
+    for (text, steps, pairs) in cases {
+        if !has_steps(alloc, task, text, steps, pairs) {
+            return false;
+        }
+    }
+    true
+}
+
+fn refuses_words(alloc: Global, task: &Task) -> bool {
+    let cases: [(&[u8], u32, LineKind); 14] = [
+        (b"Start (go a)", 1, LineKind::Shape),
+        (b"start go a", 1, LineKind::Shape),
+        (b"do (stop) 1", 1, LineKind::Shape),
+        (b"timed", 1, LineKind::Shape),
+        (b"pair 1", 1, LineKind::Shape),
+        (b"timed x", 1, LineKind::Number),
+        (b"pair 1 -2", 1, LineKind::Number),
+        (b"pair 1 4294967296", 1, LineKind::Number),
+        (b"pair 4294967295 1.0", 1, LineKind::Number),
+        (b"do (fly)", 1, LineKind::Name),
+        (b"start (go)", 1, LineKind::Name),
+        (b"do (stop)\nend (go c)", 2, LineKind::Name),
+        (b"start (go b)", 1, LineKind::Unground),
+        (b"\n\ndo (stop\nstart (go b)", 3, LineKind::Shape),
+    ];
+    for (text, line, kind) in cases {
+        if !is_no_order(alloc, task, text, LineFault::At(line, kind)) {
+            return false;
+        }
+    }
+    true
+}
+
+fn refuses_orders(alloc: Global, task: &Task) -> bool {
+    let cases: [(&[u8], u32, OrderFault); 12] = [
+        (b"do (go a)", 1, OrderFault::UnknownStep),
+        (b"start (stop)", 1, OrderFault::UnknownStep),
+        (b"end (stop)", 1, OrderFault::UnknownStep),
+        (b"timed 5", 1, OrderFault::UnknownStep),
+        (b"end (go a)", 1, OrderFault::EndWithoutStart),
+        (b"start (go a)\nstart (go a)", 2, OrderFault::Running),
+        (b"do (stop)\npair 1 2", 2, OrderFault::UnknownStep),
+        (b"pair 0 0", 1, OrderFault::UnknownStep),
+        (b"do (stop)\ndo (stop)\npair 2 1", 3, OrderFault::Cycle),
+        (b"do (stop)\npair 1 1", 2, OrderFault::Cycle),
+        (b"\ndo (stop)\n\nstart (go a)", 4, OrderFault::OpenAction(2)),
+        (b"start (go a)\ndo (stop)", 1, OrderFault::OpenAction(1)),
+    ];
+    for (text, line, fault) in cases {
+        if !is_no_order(
+            alloc,
+            task,
+            text,
+            LineFault::At(line, LineKind::Order(fault)),
+        ) {
+            return false;
+        }
+    }
+    true
+}
+
+// So many lines that do the same.
+fn repeated(alloc: Global, count: usize) -> Result<Vec<u8>, NoMemory> {
+    let mut text = Vec::new(alloc);
+    for _ in 0..count {
+        text.extend_from_slice(b"do (stop)\n")?;
+    }
+    Ok(text)
+}
+
+fn counts_steps(alloc: Global, task: &Task) -> bool {
+    let fault = LineFault::At(129, LineKind::Order(OrderFault::Limit));
+    let most = match repeated(alloc, 128) {
+        Ok(text) => text,
+        Err(_) => return false,
+    };
+    let more = match repeated(alloc, 129) {
+        Ok(text) => text,
+        Err(_) => return false,
+    };
+    has_steps(alloc, task, most.as_slice(), 128, 0)
+        && is_no_order(alloc, task, more.as_slice(), fault)
+}
+
+#[test]
+fn orderings_are_read(rt: HostRuntime) {
+    match task(rt.alloc()) {
+        Ok(task) => assert!(&rt;
+            reads_orders(rt.alloc(), &task) && counts_steps(rt.alloc(), &task)
+        ),
+        Err(_) => assert!(&rt; false),
+    }
+}
+
+#[test]
+fn wrong_orderings_are_refused(rt: HostRuntime) {
+    match task(rt.alloc()) {
+        Ok(task) => {
+            assert!(&rt; refuses_words(rt.alloc(), &task) && refuses_orders(rt.alloc(), &task))
+        }
+        Err(_) => assert!(&rt; false),
     }
 }
 
