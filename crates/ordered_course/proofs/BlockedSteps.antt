@@ -1,9 +1,9 @@
 -- The literals of a valid plan hold along the list of its steps: those of each step's own condition, the over-all
 -- literals of the actions that run, and those of the goal.
 use Rattle.std.proofs.Common.{◌≡◌, refl, sym, ap, subst, ◌∙◌, ℕ, suc, ◌<◌, Bool, true, false, not, ◌||◌, List, [], ◌∷◌, ◌++◌, map, length, arith, inl, inr, Option, Some, None}
-use Rattle.std.specs.Prelude.{slice_index_or, is_some}
+use Rattle.std.specs.Prelude.{◌⊎◌, slice_index_or, is_some}
 use Rattle.std.specs.List.{list_all, AllByRecursion}
-use Rattle.rational.specs.Rational.{ℚ, zeroℚ, ◌<ℚ◌, ◌≤ℚ◌}
+use Rattle.rational.specs.Rational.{ℚ, zeroℚ, ◌+ℚ◌, ◌*ℚ◌, ◌<ℚ◌, ◌≤ℚ◌}
 use Rattle.rational.proofs.Order.{lt_le, lt_irrefl}
 use Rattle.rational.proofs.Inequalities.{le_refl, lt_trans, le_trans}
 use Rattle.basics.proofs.Bools.{and_left, and_right}
@@ -18,7 +18,7 @@ use Rattle.task_types.specs.declared.tokens.Token.TheVariants as token
 use Rattle.task_types.specs.Sets.{is_in}
 use Rattle.task_types.specs.State.{State, literal_holds, holds}
 use Rattle.task_types.specs.Plan.{Plan, Step, action_of, snap_of, end_of, end_step, line_steps, plan_steps, timed_steps, steps, happenings}
-use Rattle.task_types.specs.Course.{before, time_of, state, last_state}
+use Rattle.task_types.specs.Course.{initial, before, after, time_of, state, last_state}
 use Rattle.task_types.specs.Touch.{looks, is_timed}
 use Rattle.task_types.specs.Laws.{Ascends}
 use Rattle.task_types.specs.Valid.{can_start, can_end, end_holds, HoldsWithin}
@@ -27,13 +27,16 @@ use Rattle.task_types.proofs.ByNumber.{after-number}
 use Rattle.task_types.proofs.Comparisons.{lt_le_absurd}
 use Rattle.task_types.proofs.Everyone.{all_map}
 use Rattle.task_types.proofs.Happenings.{Among, among, contained, happenings-times}
-use Rattle.ordering.specs.Along.{carried, changes_fact, Follows, AreInOrder}
+use Rattle.ordering.specs.Along.{at_time, carried, changes_fact, Follows, AreInOrder}
 use Rattle.ordering.specs.Laws.{Tells}
 use Rattle.ordered_course.proofs.Lasting.{start_end_tied}
 use Rattle.ordered_course.proofs.ListFacts.{Known, literals_hold, across, second_part, all_reordered, unless, changed_then_seen, seen_then_changed, changed_twice, looks_itself, looks_over_all}
 use Rattle.ordered_course.proofs.RunningLines.{Has, Both, has_both}
 use Rattle.ordered_course.proofs.Squeezing.{Between, squeezed}
-use Rattle.ordered_course.proofs.States.{fact_before, fact_after}
+use Rattle.ordered_course.proofs.States.{fluent_after, fact_before, fact_after}
+use Rattle.ordered_course.specs.Quiet.{IsQuiet}
+use Rattle.rational.proofs.Ring.{law, num, ◌⊕◌, ◌⊗◌, ◌≐◌}
+use Rattle.rational.proofs.Field.{ℚ_ring}
 
 pub holds_literals : (c : Condition) (s : State) → holds c s ≡ true → list_all (λ l. literal_holds l s.facts) c.literals ≡ true
 unfolding holds
@@ -169,30 +172,59 @@ no_steps : (xs : List Step) → AllByRecursion (λ x. ⊥) xs → xs ≡ []
 no_steps [] h = refl
 no_steps (x ∷ xs) h = absurd h.0
 
+-- an instant no earlier than any step of a list, after which the last state is reached
+pub record IsLast (task : TaskParts) (plan : Plan) (ss : List Step) : Type 0 where
+  pub time : ℚ
+  pub late : AllByRecursion (λ x. x.time ≤ℚ time) ss
+  pub state : after task plan time ≡ last_state task plan
+
 module _ (task : TaskParts) (plan : Plan) (ss : List Step) (tells : Tells task plan ss) where
+  -- The last state is the initial one, where there are no steps, or that after the last step.
+  pub last_is : ((ss ≡ []) × (initial task ≡ last_state task plan)) ⊎ IsLast task plan ss
+  last_is = go (happenings task plan) refl
+    where
+      below : (n : ℕ) → n < suc n
+      below n = omega arith
+
+      go : (ts : List ℚ) → happenings task plan ≡ ts → ((ss ≡ []) × (initial task ≡ state task plan (length (happenings task plan)))) ⊎ IsLast task plan ss
+      go [] e = inl (
+        no_steps ss (all_reordered (λ x. ⊥) (steps task plan) ss tells.same (each_happens (λ t. ⊥) task plan (subst (AllByRecursion (λ t. ⊥)) (sym e) tt))),
+        sym (ap (λ (hs : List ℚ). state task plan (length hs)) e),
+      )
+      go (t ∷ ts) e = inr (record {
+        time = time_of task plan (length ts);
+        late = all_reordered (λ x. x.time ≤ℚ time_of task plan (length ts)) (steps task plan) ss tells.same
+            (each_happens (λ u. u ≤ℚ time_of task plan (length ts)) task plan (subst (λ (hs : List ℚ). AllByRecursion (λ u. u ≤ℚ slice_index_or hs (length ts) zeroℚ) hs) (sym e) (last_greatest t ts (subst Ascends e (happenings-times task plan).ascends))));
+        state = after-number task plan (length ts) (subst (λ (hs : List ℚ). length ts < length hs) (sym e) (below (length ts))) ∙ sym (ap (λ (hs : List ℚ). state task plan (length hs)) e);
+      })
+
+  whole : (xs : List Step) → xs ++ [] ≡ xs
+  whole [] = refl
+  whole (x ∷ xs) = ap (λ l. x ∷ l) (whole xs)
+
   -- what the whole list carries is what is so in the last state
   pub last_fact : (f : ℕ) → (carried task ss).facts f ≡ (last_state task plan).facts f
-  last_fact f = go (happenings task plan) refl
+  last_fact f = go last_is
     where
-      whole : (xs : List Step) → xs ++ [] ≡ xs
-      whole [] = refl
-      whole (x ∷ xs) = ap (λ l. x ∷ l) (whole xs)
+      go : ((ss ≡ []) × (initial task ≡ last_state task plan)) ⊎ IsLast task plan ss → (carried task ss).facts f ≡ (last_state task plan).facts f
+      go (inl e) = ap (λ xs. (carried task xs).facts f) e.0 ∙ ap (λ (s : State). s.facts f) e.1
+      go (inr l) = fact_after task plan ss [] l.time f (subst (Tells task plan) (sym (whole ss)) tells)
+          (all_map (λ x. x.time ≤ℚ l.time) (λ x. l.time <ℚ x.time → changes_fact (snap_of task x.snap) f ≡ false) ss (λ x h k. absurd (lt_le_absurd l.time x.time k h)) l.late) tt
+          ∙ ap (λ (s : State). s.facts f) l.state
 
-      go : (ts : List ℚ) → happenings task plan ≡ ts → (carried task ss).facts f ≡ (state task plan (length (happenings task plan))).facts f
-      go [] e = ap (λ xs. (carried task xs).facts f) (no_steps ss (all_reordered (λ x. ⊥) (steps task plan) ss tells.same (each_happens (λ t. ⊥) task plan (subst (AllByRecursion (λ t. ⊥)) (sym e) tt))))
-          ∙ sym (ap (λ (hs : List ℚ). (state task plan (length hs)).facts f) e)
-      go (t ∷ ts) e = fact_after task plan ss [] (time_of task plan (length ts)) f (subst (Tells task plan) (sym (whole ss)) tells)
-          (all_map (λ x. x.time ≤ℚ time_of task plan (length ts)) (λ x. time_of task plan (length ts) <ℚ x.time → changes_fact (snap_of task x.snap) f ≡ false) ss (λ x h l. absurd (lt_le_absurd (time_of task plan (length ts)) x.time l h))
-          (all_reordered (λ x. x.time ≤ℚ time_of task plan (length ts)) (steps task plan) ss tells.same (each_happens (λ u. u ≤ℚ time_of task plan (length ts)) task plan greatest)))
-          tt
-          ∙ ap (λ (s : State). s.facts f) (after-number task plan (length ts) (subst (λ (hs : List ℚ). length ts < length hs) (sym e) (below (length ts))))
-          ∙ sym (ap (λ (hs : List ℚ). (state task plan (length hs)).facts f) e)
-        where
-          below : (n : ℕ) → n < suc n
-          below n = omega arith
+  -- where nothing goes on in the end, each fluent has its level
+  pub last_fluent : (f : ℕ) → (carried task ss).slope f ≡ zeroℚ → (carried task ss).level f ≡ (last_state task plan).fluents f
+  last_fluent f z = go last_is
+    where
+      still : (t : ℚ) → (carried task ss).level f ≡ (at_time (carried task ss) t).fluents f
+      still t = law ℚ_ring ((carried task ss).level f ∷ t ∷ []) (λ l t. l ≐ l ⊕ num 0 ⊗ t) refl ∙ ap (λ s. (carried task ss).level f +ℚ s *ℚ t) (sym z)
 
-          greatest : AllByRecursion (λ u. u ≤ℚ time_of task plan (length ts)) (happenings task plan)
-          greatest = subst (λ (hs : List ℚ). AllByRecursion (λ u. u ≤ℚ slice_index_or hs (length ts) zeroℚ) hs) (sym e) (last_greatest t ts (subst Ascends e (happenings-times task plan).ascends))
+      go : ((ss ≡ []) × (initial task ≡ last_state task plan)) ⊎ IsLast task plan ss → (carried task ss).level f ≡ (last_state task plan).fluents f
+      go (inl e) = ap (λ xs. (carried task xs).level f) e.0 ∙ ap (λ (s : State). s.fluents f) e.1
+      go (inr l) = still l.time
+          ∙ fluent_after task plan ss [] l.time f (subst (Tells task plan) (sym (whole ss)) tells)
+          (all_map (λ x. x.time ≤ℚ l.time) (λ x. l.time <ℚ x.time → IsQuiet task l.time f x) ss (λ x h k. absurd (lt_le_absurd l.time x.time k h)) l.late) tt
+          ∙ ap (λ (s : State). s.fluents f) l.state
 
   pub goal_literals : (c : Condition) → holds c (last_state task plan) ≡ true → list_all (λ l. literal_holds l (carried task ss).facts) c.literals ≡ true
   goal_literals c h = literals_hold (carried task ss).facts c.literals (λ f i. record { there = (last_state task plan).facts; same = last_fact f; hold = holds_literals c (last_state task plan) h })

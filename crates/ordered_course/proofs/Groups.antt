@@ -18,7 +18,7 @@ use Rattle.task_types.specs.WellMade.{snap_fits}
 use Rattle.task_types.proofs.Everyone.{all_map, all_swap}
 use Rattle.ordering.specs.Along.{changes_fact, tied_apart}
 use Rattle.ordered_course.proofs.Lasting.{any_last}
-use Rattle.ordered_course.proofs.ListFacts.{changed_twice}
+use Rattle.ordered_course.proofs.ListFacts.{true_and_false, changed_twice}
 
 -- a number that stands in both of two lists
 pub record Common (xs ys : List ℕ) : Type 0 where
@@ -50,16 +50,13 @@ any_at q f (x ∷ xs) i h = go (x == f) refl i (λ e. any_at q f xs e h)
     go true e i r = or_left (q x) (list_any q xs) (ap q (same_out x f e) ∙ h)
     go false e i r = or_right (q x) (list_any q xs) (r i)
 
-clash : {A : Type 0} (b : Bool) → b ≡ true → b ≡ false → A
-clash b e f = let c : true ≡ false = sym e ∙ f in cc
-
 -- where no two different numbers stand in a list, two of it are one
 only_one : (f g : ℕ) (xs : List ℕ) → are_several xs ≡ false → is_in f xs ≡ true → is_in g xs ≡ true → g ≡ f
 only_one f g xs n i j = go (g == f) refl
   where
     go : (b : Bool) → (g == f) ≡ b → g ≡ f
     go true e = same_out g f e
-    go false e = clash (are_several xs) (any_at (λ x. list_any (λ y. not (y == x)) xs) f xs i (any_at (λ y. not (y == f)) g xs j (ap not e))) n
+    go false e = true_and_false (are_several xs) (any_at (λ x. list_any (λ y. not (y == x)) xs) f xs i (any_at (λ y. not (y == f)) g xs j (ap not e))) n
 
 -- ---- the tokens of groups
 
@@ -110,7 +107,7 @@ module _ (task : TaskParts) (fits : (k : ℕ) → snap_fits task (snap_of task k
     where
       go : (b : Bool) → changes_fact (snap_of task k) f ≡ b → changes_fact (snap_of task k) f ≡ false
       go false q = q
-      go true q = clash (alters k) (meet_in f (trail_facts c) (changed_facts (snap_of task k)) i (changes-is k f ∙ q)) e
+      go true q = true_and_false (alters k) (meet_in f (trail_facts c) (changed_facts (snap_of task k)) i (changes-is k f ∙ q)) e
 
   pub alters_apart : (k l : ℕ) → alters k ≡ true → alters l ≡ true → tied_apart task (snap_of task k) (snap_of task l) ≡ true
   alters_apart k l h i = go (are_several (trail_facts c)) refl

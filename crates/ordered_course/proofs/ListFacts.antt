@@ -78,8 +78,9 @@ all_reordered P xs ys p h = recursion_from_All P ys (All-permutation P xs ys p (
 
 -- ---- ties
 
-clash : (b : Bool) → b ≡ true → b ≡ false → ⊥
-clash b e f = let c : true ≡ false = sym e ∙ f in cc
+-- no Bool is both
+pub true_and_false : {A : Type 0} (b : Bool) → b ≡ true → b ≡ false → A
+true_and_false b e f = let c : true ≡ false = sym e ∙ f in cc
 
 pub unless : (b : Bool) → (b ≡ true → ⊥) → b ≡ false
 unless true h = absurd (h refl)
@@ -91,7 +92,7 @@ module _ (task : TaskParts) (fits : (k : ℕ) → snap_fits task (snap_of task k
     where
       go : (b : Bool) → list_any p (tokens task) ≡ b → list_any p (tokens task) ≡ true
       go true q = q
-      go false q = absurd (clash (p (token.Fact f)) e (fact_token task p q f l))
+      go false q = true_and_false (p (token.Fact f)) e (fact_token task p q f l)
 
   changing_marks : (k f : ℕ) → changes_fact (snap_of task k) f ≡ true → marks task (snap_of task k) (token.Fact f) ≡ true
   changing_marks k f h = list_any-append (λ y. y == f) (snap_of task k).effect.adds (snap_of task k).effect.deletes ∙ h

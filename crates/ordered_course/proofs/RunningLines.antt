@@ -21,6 +21,7 @@ use Rattle.task_types.specs.Agreement.{end_time, begun, begun_lines, numbered}
 use Rattle.ordered_course.proofs.Listed.{Closes, AreOwned}
 use Rattle.ordered_course.proofs.Closing.{HaveActions}
 use Rattle.ordered_course.proofs.Lasting.{end_action, goes_on}
+use Rattle.ordered_course.proofs.ListFacts.{true_and_false}
 
 -- some element of a list has a property
 abbrev pub Has : {X : Type 0} → (X → Type 0) → List X → Type 0
@@ -80,9 +81,6 @@ pub record Ended (task : TaskParts) (a : ℕ) (ps : List (ℕ × ℚ)) : Type 0 
 abbrev pub running_on : TaskParts → List ℕ → List (ℕ × ℚ) → List ℕ
 running_on task running ps = fold (λ actions s. run_on (snap_of task s).kind (option_to_list (snap_of task s).action) actions) running (map (λ p. p.0) ps)
 
-clash : {A : Type 0} (b : Bool) → b ≡ true → b ≡ false → A
-clash b e f = let c : true ≡ false = sym e ∙ f in cc
-
 in_kept : (q : ℕ → Bool) (a : ℕ) (xs : List ℕ) → is_in a (filter q xs) ≡ true → is_in a xs ≡ true
 in_kept q a [] h = h
 in_kept q a (x ∷ xs) h = go (q x) h (in_kept q a xs)
@@ -102,7 +100,7 @@ without_itself a (x ∷ xs) = go (a == x) refl (without_itself a xs)
   where
     other : (b : Bool) → (x == a) ≡ b → (a == x) ≡ false → (x == a) ≡ false
     other false e f = e
-    other true e f = clash (a == x) (ap (λ y. a == y) (same_out x a e) ∙ same_itself a) f
+    other true e f = true_and_false (a == x) (ap (λ y. a == y) (same_out x a e) ∙ same_itself a) f
 
     go : (b : Bool) → (a == x) ≡ b → is_in a (filter (λ b. not (is_in b (a ∷ []))) xs) ≡ false → is_in a (cond (not (b || false)) (x ∷ filter (λ b. not (is_in b (a ∷ []))) xs) (filter (λ b. not (is_in b (a ∷ []))) xs)) ≡ false
     go true e r = r
@@ -157,7 +155,7 @@ module _ (task : TaskParts) (owned : AreOwned task) (have : HaveActions task) wh
 
       go : (b : Bool) → is_in s (option_to_list (action_of task a).end) ≡ b → is_in s (option_to_list (action_of task a).end) ≡ false
       go false e = e
-      go true e = clash (is_in a (run_on (snap_of task s).kind (option_to_list (snap_of task s).action) running)) h (ended (end_number a s e))
+      go true e = true_and_false (is_in a (run_on (snap_of task s).kind (option_to_list (snap_of task s).action) running)) h (ended (end_number a s e))
 
   started_since : (a : ℕ) (running : List ℕ) (pre suf : List (ℕ × ℚ)) → is_in a (running_on task running pre) ≡ true → ((is_in a running ≡ true) × (end_time task a (pre ++ suf) ≡ end_time task a suf)) ⊎ Started task a pre suf
   started_since a running [] suf h = inl (h, refl)
@@ -190,7 +188,7 @@ module _ (task : TaskParts) (owned : AreOwned task) (have : HaveActions task) wh
       go (inr s) = s
 
   pub ended : (a : ℕ) (running : List ℕ) (ps : List (ℕ × ℚ)) → Closes task running ps → is_in a running ≡ true → Ended task a ps
-  ended a running [] c i = clash (is_in a running) i (ap (is_in a) c)
+  ended a running [] c i = true_and_false (is_in a running) i (ap (is_in a) c)
   ended a running (p ∷ ps) c i = go (is_in p.0 (option_to_list (action_of task a).end)) refl
       (λ n. ended a (run_on (snap_of task p.0).kind (option_to_list (snap_of task p.0).action) running) ps c.1 (goes_on task owned have a p.0 running i n))
     where

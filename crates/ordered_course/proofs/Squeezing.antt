@@ -8,9 +8,7 @@ use Rattle.rational.specs.Segment.{halfway}
 use Rattle.rational.proofs.Inequalities.{le_refl, le_trans, lt_le_trans, le_lt_trans, below_halfway, halfway_below}
 use Rattle.task_types.specs.Plan.{Step}
 use Rattle.task_types.proofs.Everyone.{all_both, all_map}
-
-clash : {A : Type 0} (b : Bool) → b ≡ true → b ≡ false → A
-clash b e f = let c : true ≡ false = sym e ∙ f in cc
+use Rattle.ordered_course.proofs.ListFacts.{true_and_false}
 
 -- the latest of a time and those of the steps that pass, which all have a property
 record Latest (Q : ℚ → Type 0) (p : Step → Bool) (t : ℚ) (xs : List Step) : Type 0 where
@@ -30,7 +28,7 @@ latest Q p t [] q h = record { time = t; so = q; no_earlier = le_refl t; all = t
 latest Q p t (x ∷ xs) q h = go (p x) refl (le_or_gt t x.time) (λ u r. latest Q p u xs r h.1)
   where
     go : (b : Bool) → p x ≡ b → (t ≤ℚ x.time) ⊎ (x.time <ℚ t) → ((u : ℚ) → Q u → Latest Q p u xs) → Latest Q p t (x ∷ xs)
-    go false e o r = let l = r t q in record { time = l.time; so = l.so; no_earlier = l.no_earlier; all = (λ c. clash (p x) c e, l.all) }
+    go false e o r = let l = r t q in record { time = l.time; so = l.so; no_earlier = l.no_earlier; all = (λ c. true_and_false (p x) c e, l.all) }
     go true e (inl o) r = let l = r x.time (h.0 e) in record { time = l.time; so = l.so; no_earlier = le_trans t x.time l.time o l.no_earlier; all = (λ c. l.no_earlier, l.all) }
     go true e (inr o) r = let l = r t q in record { time = l.time; so = l.so; no_earlier = l.no_earlier; all = (λ c. le_trans x.time t l.time (lt_le x.time t o) l.no_earlier, l.all) }
 
@@ -39,7 +37,7 @@ earliest Q p t [] q h = record { time = t; so = q; no_later = le_refl t; all = t
 earliest Q p t (y ∷ ys) q h = go (p y) refl (le_or_gt t y.time) (λ u r. earliest Q p u ys r h.1)
   where
     go : (b : Bool) → p y ≡ b → (t ≤ℚ y.time) ⊎ (y.time <ℚ t) → ((u : ℚ) → Q u → Earliest Q p u ys) → Earliest Q p t (y ∷ ys)
-    go false e o r = let l = r t q in record { time = l.time; so = l.so; no_later = l.no_later; all = (λ c. clash (p y) c e, l.all) }
+    go false e o r = let l = r t q in record { time = l.time; so = l.so; no_later = l.no_later; all = (λ c. true_and_false (p y) c e, l.all) }
     go true e (inl o) r = let l = r t q in record { time = l.time; so = l.so; no_later = l.no_later; all = (λ c. le_trans l.time t y.time l.no_later o, l.all) }
     go true e (inr o) r = let l = r y.time (h.0 e) in record { time = l.time; so = l.so; no_later = le_trans l.time y.time t l.no_later (lt_le y.time t o); all = (λ c. l.no_later, l.all) }
 

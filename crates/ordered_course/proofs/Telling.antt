@@ -59,11 +59,12 @@ none_run : (xs : List ℕ) → list_all (λ a. false) xs ≡ true → xs ≡ []
 none_run [] h = refl
 none_run (x ∷ xs) h = let c : false ≡ true = h in cc
 
-record Closed (task : TaskParts) (o : Order) : Type 0 where
-  nothing_runs : running task o.steps ≡ []
-  all_timed : timed_count task o.steps ≡ length task.timed
+-- what a closed list says
+pub record Closed (task : TaskParts) (o : Order) : Type 0 where
+  pub nothing_runs : running task o.steps ≡ []
+  pub all_timed : timed_count task o.steps ≡ length task.timed
 
-closed_so : (task : TaskParts) (o : Order) → IsTrue (is_closed task o) → Closed task o
+pub closed_so : (task : TaskParts) (o : Order) → IsTrue (is_closed task o) → Closed task o
 unfolding is_closed
 closed_so task o h = record { nothing_runs = none_run (running task o.steps) (and_left _ _ h); all_timed = same_out _ _ (and_right _ _ h) }
 

@@ -1,2 +1,5 @@
+pub mod InTime
+pub mod Listing
 pub mod Meaning
 pub mod Slopes
+pub mod Spans

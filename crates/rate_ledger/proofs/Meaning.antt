@@ -38,7 +38,7 @@ unfolding value
 put_at values x form = put_on values x (Number form.constant) form.terms ∙ ap (λ q. q +ℚ terms_at form.terms (λ f. sum_at (values f) x)) (number_at form.constant x)
 
 -- the time since which an entry moves
-abbrev since_time : (ℕ → ℚ) → Option ℕ → ℚ
+abbrev pub since_time : (ℕ → ℚ) → Option ℕ → ℚ
 since_time x None = zeroℚ
 since_time x (Some s) = x s
 
