@@ -60,6 +60,42 @@ def made_task(trucks):
     return program
 
 
+def tank():
+    """A tank that is filled at rate 3 up to level 1 at least and 10 at most: the times of the start, the end and the
+    last step."""
+    program = Program("tank", 3, cost={2: Fraction(1)})
+    program.add({0: 1}, HORIZON)
+    program.add({0: 1, 2: -1}, 0)
+    program.add({}, 10)
+    program.add({0: 1, 1: -1}, -EPSILON)
+    program.add({1: 1}, HORIZON)
+    program.add({1: 1, 2: -1}, 0)
+    program.add({1: 1, 0: -1}, 10)
+    program.add({1: 3, 0: -3}, 10)
+    program.add({1: -3, 0: 3}, -1)
+    return program
+
+
+def watch():
+    """Four steps one after another, of which the first starts an action of duration 1 that the last one ends. What it
+    watches is 1, 3 and 1 above its bound."""
+    program = Program("watch", 5, cost={4: Fraction(1)})
+    above = [1, 1, 3, 1]
+    for step in range(4):
+        for before in range(step):
+            program.add({before: 1, step: -1}, -EPSILON)
+        program.add({step: 1}, HORIZON)
+        program.add({step: 1, 4: -1}, 0)
+        if step == 3:
+            program.add({3: -1, 0: 1}, -1)
+            program.add({3: 1, 0: -1}, 1)
+        if step > 0:
+            program.add({}, above[step])
+        if step < 3:
+            program.add({}, [1, 3, 1][step])
+    return program
+
+
 def prefix(starts, seed):
     """The times of so many starts, as many timed steps between them and the ends to come. Each two of them are linked,
     and each action has eight comparisons that hold throughout, of fluents whose rates each start changes."""

@@ -18,6 +18,7 @@ use Rattle.lp_tableau.proofs.Writing.{last_or_before}
 use Rattle.lp_tableau.proofs.Growing.{grown}
 use Rattle.lp_sparse.specs.declared.tableau.Tableau.{Tableau}
 use Rattle.lp_sparse.specs.SparseRows.{filled, terms_of, terms_of_rows, IsRow, IsRowOf}
+use Rattle.lp_sparse.specs.ColumnMarks.{marks_of, AreMarked}
 use Rattle.lp_sparse.specs.SparseTableaus.{width_of, dictionary_of, AreRows}
 use Rattle.lp_sparse.proofs.Coefficients.{filled-more, IsSparse-more, length-filled}
 use Rattle.lp_sparse.proofs.RowReads.{length-terms_of_rows}
@@ -97,11 +98,12 @@ module _ {S : Type 0} (value : S → ℚ) (limit : ℕ) (p : Program) (t : Table
   width : width_of t ≡ length p.costs + 1
   width = ap (λ (xs : List ℕ). length xs + 1) nonbasic_is ∙ ap (λ (m : ℕ). m + 1) (length-range_with_len 0 (length p.costs))
 
-  pub first-rows : AreRows value limit t
-  first-rows = record {
+  pub first-rows : AreMarked (marks_of t.marks.items) (terms_of_rows value t.rows.items) → AreRows value limit t
+  first-rows marked = record {
     rows = subst (λ (m : ℕ). All (IsRow limit m) (terms_of_rows value t.rows.items)) (sym width) rows_fit;
     cost = subst (λ (m : ℕ). IsRow limit m (terms_of value t.cost.items)) (sym width) cost_is.is;
     basic = ap length basic_is ∙ length-range_with_len (length p.costs) (length p.rows) ∙ sym (length-map p.rows slack_row) ∙ ap length (sym rows_are) ∙ length-map (terms_of_rows value t.rows.items) (filled (length p.costs + 1)) ∙ length-terms_of_rows value t.rows.items;
+    marked = marked;
   }
 
   pub first-dictionary : dictionary_of value t ≡ initial p

@@ -3,6 +3,7 @@ pub mod Merging
 pub mod Replacing
 pub mod SolvedTerms
 pub mod Changes
+pub mod Marking
 pub mod Pointing
 pub mod RowParts
 pub mod RowReads

@@ -12,6 +12,7 @@ use Rattle.lp_sparse.specs.declared.pivot.Reckoned.{Reckoned}
 use Rattle.lp_sparse.specs.SparseRows.{filled, terms_of, terms_of_rows, IsRow, IsSolved, IsReplaced}
 use Rattle.lp_sparse.specs.SparseChanges.{terms_in, AreChanges, Becomes, changes_of, with_changes, row_or}
 use Rattle.lp_sparse.specs.SparsePivots.{IsReckoned}
+use Rattle.lp_sparse.specs.ColumnMarks.{marks_of, AreMarked}
 use Rattle.lp_sparse.specs.SparseTableaus.{width_of, dictionary_of, AreRows}
 use Rattle.lp_sparse.proofs.Changes.{HaveBecome, changes-made}
 use Rattle.lp_sparse.proofs.Replacing.{IsRow-replaced}
@@ -111,11 +112,12 @@ module _ {S : Type 0} (value : S → ℚ) (limit : ℕ) (t : Tableau S) (fits : 
     count-is : length u.rows.items ≡ length t.rows.items
     count-is = sym (length-terms_of_rows value u.rows.items) ∙ ap length rows_are ∙ length-set after i solution ∙ become.same_length ∙ length-terms_of_rows value t.rows.items
 
-    pub made-fits : AreRows value limit u
-    made-fits = record {
+    pub made-fits : AreMarked (marks_of u.marks.items) (terms_of_rows value u.rows.items) → AreRows value limit u
+    made-fits marked = record {
       rows = subst (λ (m : ℕ). All (IsRow limit m) (terms_of_rows value u.rows.items)) (sym width-is) (subst (All (IsRow limit n)) (sym rows_are) (rows-fit limit n i j solution rows after become in_rows is.is));
       cost = subst (λ (m : ℕ). IsRow limit m (terms_of value u.cost.items)) (sym width-is) (subst (IsRow limit n) (sym cost_is) (IsRow-replaced limit n j solution (terms_of value t.cost.items) (row_or value (terms_of value t.cost.items) r.cost) reckoned.cost));
       basic = ap length basic_is ∙ length-set t.basic.items i (nonbasic_of (dictionary_of value t) j) ∙ fits.basic ∙ sym count-is;
+      marked = marked;
     }
 
     pub made-pivoted : dictionary_of value u ≡ pivoted (dictionary_of value t) i j

@@ -1,14 +1,15 @@
 -- What is read of the rows of a tableau.
-use Rattle.std.proofs.Common.{◌≡◌, ℕ, ◌+◌, ◌<◌, List, [], length, map, sym, ap, subst, ◌∙◌, get_or, arith}
+use Rattle.std.proofs.Common.{◌≡◌, ℕ, ◌+◌, ◌<◌, false, List, [], length, map, sym, ap, subst, ◌∙◌, get_or, arith}
 use Rattle.std.specs.Prelude.{Vec}
 use Rattle.std.proofs.lemmas.List.{length-map, get_or-map}
-use Rattle.rational.specs.Rational.{ℚ}
+use Rattle.rational.specs.Rational.{ℚ, zeroℚ}
 use Rattle.rational.specs.Lists.{at}
 use Rattle.exact_lin.specs.Forms.{Terms, coefficient}
 use Rattle.lp_tableau.specs.Dictionaries.{row_of}
 use Rattle.lp_sparse.specs.declared.tableau.Tableau.{Tableau}
 use Rattle.lp_sparse.specs.SparseRows.{filled, terms_of, terms_of_rows, IsRow}
 use Rattle.lp_sparse.specs.SparseChanges.{terms_in}
+use Rattle.lp_sparse.specs.ColumnMarks.{marks_of, may_hold}
 use Rattle.lp_sparse.specs.SparseTableaus.{width_of, dictionary_of, AreRows}
 use Rattle.lp_sparse.proofs.Coefficients.{at-filled}
 
@@ -32,6 +33,13 @@ module _ {S : Type 0} (value : S → ℚ) (limit : ℕ) (t : Tableau S) (rows : 
 
   pub row-is : (i : ℕ) → i < length t.rows.items → row_of (dictionary_of value t) i ≡ filled (width_of t) (terms_in (terms_of_rows value t.rows.items) i)
   row-is i h = get_or-map (filled (width_of t)) (terms_of_rows value t.rows.items) i [] [] (in_range i h)
+
+  -- a row that doesn't hold a column has 0 there
+  pub unheld-is : (i k : ℕ) → i < length t.rows.items → may_hold (marks_of t.marks.items) k i ≡ false → coefficient (terms_in (terms_of_rows value t.rows.items) i) k ≡ zeroℚ
+  unheld-is i k h f = rows.marked i k f
+
+  pub unheld-at : (i k : ℕ) → i < length t.rows.items → k < width_of t → may_hold (marks_of t.marks.items) k i ≡ false → at (row_of (dictionary_of value t) i) k ≡ zeroℚ
+  unheld-at i k h l f = ap (λ (u : List ℚ). at u k) (row-is i h) ∙ at-filled (width_of t) k (terms_in (terms_of_rows value t.rows.items) i) l ∙ unheld-is i k h f
 
   module _ (i : ℕ) (xs : List (ℕ × S)) (h : i < length t.rows.items) (read : terms_in (terms_of_rows value t.rows.items) i ≡ terms_of value xs) where
     -- the row that is read has its numbers

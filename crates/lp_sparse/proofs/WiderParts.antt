@@ -9,6 +9,7 @@ use Rattle.exact_lin.specs.Forms.{Terms}
 use Rattle.lp_tableau.proofs.Growing.{grown}
 use Rattle.lp_sparse.specs.declared.tableau.Tableau.{Tableau}
 use Rattle.lp_sparse.specs.SparseRows.{filled, terms_of, terms_of_rows, IsRow}
+use Rattle.lp_sparse.specs.ColumnMarks.{marks_of, AreMarked}
 use Rattle.lp_sparse.specs.SparseTableaus.{width_of, dictionary_of, AreRows}
 use Rattle.lp_sparse.proofs.RowReads.{length-terms_of_rows}
 use Rattle.lp_sparse.proofs.Pivoting.{same_dictionary}
@@ -40,11 +41,12 @@ module _ (t u : Tableau ℚ) (basic_is : u.basic.items ≡ t.basic.items) (nonba
       (ap (λ (m : ℕ). map (filled m) (terms_of_rows (λ q. q) u.rows.items)) width-is ∙ ap (map (filled (width_of t))) rows_are)
       (ap (λ (m : ℕ). filled m (terms_of (λ q. q) u.cost.items)) width-is ∙ ap (λ (xs : List (ℕ × ℚ)). filled (width_of t) (terms_of (λ q. q) xs)) cost_is)
 
-  pub widened-fits : AreRows (λ q. q) narrow_limit t → AreRows (λ q. q) wide_limit u
-  widened-fits f = record {
+  pub widened-fits : AreRows (λ q. q) narrow_limit t → AreMarked (marks_of u.marks.items) (terms_of_rows (λ q. q) u.rows.items) → AreRows (λ q. q) wide_limit u
+  widened-fits f marked = record {
     rows = λ k d h. subst (λ (m : ℕ). IsRow wide_limit m (get_or (terms_of_rows (λ q. q) u.rows.items) k d)) (sym width-is) (IsRow-larger narrow_limit wide_limit narrow-below_wide (width_of t) (get_or (terms_of_rows (λ q. q) u.rows.items) k d)
         (subst (λ (rs : List Terms). IsRow narrow_limit (width_of t) (get_or rs k d)) (sym rows_are) (f.rows k d (subst (λ (rs : List Terms). k < length rs) rows_are h))));
     cost = subst (λ (m : ℕ). IsRow wide_limit m (terms_of (λ q. q) u.cost.items)) (sym width-is) (IsRow-larger narrow_limit wide_limit narrow-below_wide (width_of t) (terms_of (λ q. q) u.cost.items)
         (subst (λ (xs : List (ℕ × ℚ)). IsRow narrow_limit (width_of t) (terms_of (λ q. q) xs)) (sym cost_is) f.cost));
     basic = ap length basic_is ∙ f.basic ∙ sym (length-terms_of_rows (λ (q : ℚ). q) t.rows.items) ∙ ap length (sym rows_are) ∙ length-terms_of_rows (λ (q : ℚ). q) u.rows.items;
+    marked = marked;
   }

@@ -1,6 +1,7 @@
 pub mod SparseRows
 pub mod SparseChanges
 pub mod SparsePivots
+pub mod ColumnMarks
 pub mod SparseTableaus
 pub mod SparseTurns
 pub mod Stops

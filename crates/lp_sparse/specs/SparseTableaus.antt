@@ -6,6 +6,7 @@ use Rattle.lp_sparse.specs.declared.tableau.Tableau.{Tableau}
 use Rattle.lp_tableau.specs.Dictionaries.{Dictionary}
 use Rattle.lp_tableau.specs.Meanings.{IsDictionary}
 use Rattle.lp_sparse.specs.SparseRows.{filled, terms_of, terms_of_rows, IsRow}
+use Rattle.lp_sparse.specs.ColumnMarks.{marks_of, AreMarked}
 
 -- an entry for each nonbasic variable, and the constant
 abbrev pub width_of : {S : Type 0} → Tableau S → ℕ
@@ -20,11 +21,12 @@ dictionary_of value t = record {
   cost = filled (width_of t) (terms_of value t.cost.items);
 }
 
--- the rows are those of so many numbers without their zeros, each number keeps to the limit, and there is a row for each basic variable
+-- the rows are those of so many numbers without their zeros, each number keeps to the limit, there is a row for each basic variable, and each row's columns are marked
 pub record AreRows {S : Type 0} (value : S → ℚ) (limit : ℕ) (t : Tableau S) : Type 0 where
   pub rows : All (IsRow limit (width_of t)) (terms_of_rows value t.rows.items)
   pub cost : IsRow limit (width_of t) (terms_of value t.cost.items)
   pub basic : length t.basic.items ≡ length t.rows.items
+  pub marked : AreMarked (marks_of t.marks.items) (terms_of_rows value t.rows.items)
 
 -- the numbers are a dictionary
 pub record IsSound {S : Type 0} (value : S → ℚ) (limit : ℕ) (t : Tableau S) : Type 0 where

@@ -2,6 +2,7 @@
 #![tactic(auto)]
 
 mod dictionary;
+mod marks;
 mod merge;
 mod mixed;
 mod multipliers;

@@ -8,8 +8,10 @@ ghost use Rattle.lp_tableau.specs.Pivots.{pivoted, CanPivot, CanReplace, CanRepl
 ghost use Rattle.lp_sparse.specs.SparseRows.{terms_of, terms_of_rows, filled, IsRow, IsSparse, IsSolved, IsReplaced, CanJoinHalves, joined_halves};
 ghost use Rattle.lp_sparse.specs.SparseChanges.{terms_in, changes_of, with_changes, AreWithin, AreChanges, Becomes, noted, row_or};
 ghost use Rattle.lp_sparse.specs.SparsePivots.{whole_of, IsReckoned};
+ghost use Rattle.lp_sparse.specs.ColumnMarks.{marks_of, AreMarked};
 ghost use Rattle.lp_sparse.specs.SparseTableaus.{AreRows, dictionary_of, width_of};
 
+use crate::marks::{mark_row, may_hold};
 use crate::merge::{merge, push_term};
 use crate::rows::{Halves, part_at};
 use crate::solving::{solve_row, spare_row};
@@ -102,6 +104,9 @@ fn reckon_row<S: Scalar>(
         (dictionary_of S.value t.now).rows }
 {
     if k == i {
+        return Ok(None);
+    }
+    if !may_hold(&t.marks, j, k) {
         return Ok(None);
     }
     match replace(&t.rows[k], solution, j, spare) {
@@ -248,15 +253,19 @@ fn put<S: Scalar>(
 // Puts the changed rows at their places.
 fn write_rows<S: Scalar>(
     rows: &mut Vec<Vec<(usize, S)>>,
+    marks: &mut Vec<Vec<bool>>,
     changes: Vec<(usize, Vec<(usize, S)>)>,
     spare: &mut Vec<Vec<(usize, S)>>,
 )
-    requires { AreWithin (length rows.old.items) (changes_of S.value changes.items) }
-    ensures { terms_of_rows S.value rows.new.items
+    requires within { AreWithin (length rows.old.items) (changes_of S.value changes.items) }
+    requires marked { AreMarked (marks_of marks.old.items) (terms_of_rows S.value rows.old.items) }
+    ensures rows { terms_of_rows S.value rows.new.items
         ≡ with_changes (changes_of S.value changes.items) (terms_of_rows S.value rows.old.items) }
+    ensures marked { AreMarked (marks_of marks.new.items) (terms_of_rows S.value rows.new.items) }
 {
     let mut left = changes;
     while let Some((k, row)) = left.pop() {
+        mark_row(marks, k, &row);
         put(&mut rows[k], row, spare);
     }
 }
@@ -264,6 +273,7 @@ fn write_rows<S: Scalar>(
 // Puts the changed rows and the solved one at their places.
 fn place_rows<S: Scalar>(
     rows: &mut Vec<Vec<(usize, S)>>,
+    marks: &mut Vec<Vec<bool>>,
     i: usize,
     solution: Vec<(usize, S)>,
     changes: Vec<(usize, Vec<(usize, S)>)>,
@@ -271,11 +281,14 @@ fn place_rows<S: Scalar>(
 )
     requires row { i < length rows.old.items }
     requires changes { AreWithin (length rows.old.items) (changes_of S.value changes.items) }
-    ensures { terms_of_rows S.value rows.new.items ≡ slice_set
+    requires marked { AreMarked (marks_of marks.old.items) (terms_of_rows S.value rows.old.items) }
+    ensures rows { terms_of_rows S.value rows.new.items ≡ slice_set
         (with_changes (changes_of S.value changes.items) (terms_of_rows S.value rows.old.items))
         i (terms_of S.value solution.items) }
+    ensures marked { AreMarked (marks_of marks.new.items) (terms_of_rows S.value rows.new.items) }
 {
-    write_rows(rows, changes, spare);
+    write_rows(rows, marks, changes, spare);
+    mark_row(marks, i, &solution);
     put(&mut rows[i], solution, spare);
 }
 
@@ -313,7 +326,7 @@ fn make<S: Scalar>(
     ensures rows { AreRows S.value S.limit t.new }
     ensures pivot { dictionary_of S.value t.new ≡ pivoted (dictionary_of S.value t.old) i j }
 {
-    place_rows(&mut t.rows, i, solution, reckoned.rows, spare);
+    place_rows(&mut t.rows, &mut t.marks, i, solution, reckoned.rows, spare);
     put_changed(&mut t.cost, reckoned.cost, spare);
     let leaving = t.basic[i];
     t.basic[i] = t.nonbasic[j];

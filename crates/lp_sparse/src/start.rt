@@ -7,6 +7,7 @@ ghost use Rattle.lp_tableau.specs.Dictionaries.{initial, slack_row};
 ghost use Rattle.lp_sparse.specs.SparseRows.{terms_of, terms_of_rows, filled, IsRow, IsRowOf};
 ghost use Rattle.lp_sparse.specs.SparseTableaus.{AreRows, dictionary_of};
 
+use crate::marks::marks_for;
 use crate::merge::push_term;
 use crate::tableau::Tableau;
 use cert_core::Rows;
@@ -95,10 +96,12 @@ pub(crate) fn first_tableau<R: Id, V: Id, S: Scalar, P: Rows<R, V, S>>(
     let nonbasic = numbers(alloc, 0, variables)?;
     let rows = slacks(alloc, program)?;
     let cost = costs(alloc, program)?;
+    let marks = marks_for(alloc, &rows, variables + 1)?;
     Ok(Tableau {
         basic,
         nonbasic,
         rows,
         cost,
+        marks,
     })
 }

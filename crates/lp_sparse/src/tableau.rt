@@ -5,17 +5,20 @@ ghost use Rattle.rational.specs.Lists.{at};
 ghost use Rattle.lp_tableau.specs.Dictionaries.{constant_of, entry_of, value_of};
 ghost use Rattle.lp_sparse.specs.SparseTableaus.{AreRows, dictionary_of};
 
+use crate::marks::may_hold;
 use crate::rows::{entry_in, last_in};
 use exact_lin::Scalar;
 
 // Each basic variable and the cost as a linear function of the nonbasic variables: a row of columns and numbers, in the
-// order of the columns and without zeros. A column is the place of a nonbasic variable; the last is the constant's.
+// order of the columns and without zeros. A column is the place of a nonbasic variable; the last is the constant's. The
+// marks tell for each column which rows may hold it.
 #[derive(Drop)]
 pub(crate) struct Tableau<S> {
     pub(crate) basic: Vec<usize>,
     pub(crate) nonbasic: Vec<usize>,
     pub(crate) rows: Vec<Vec<(usize, S)>>,
     pub(crate) cost: Vec<(usize, S)>,
+    pub(crate) marks: Vec<Vec<bool>>,
 }
 
 impl<S: Scalar> Tableau<S> {
@@ -35,6 +38,9 @@ impl<S: Scalar> Tableau<S> {
         requires column { j < length self.now.nonbasic.items }
         ensures { S.value result ≡ entry_of (dictionary_of S.value self.now) i j }
     {
+        if !may_hold(&self.marks, j, i) {
+            return S::of_int(0);
+        }
         entry_in(&self.rows[i], j)
     }
 

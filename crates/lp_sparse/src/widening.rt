@@ -5,6 +5,7 @@ ghost use Rattle.exact_lin.specs.Reckoning.{narrow_limit, wide_limit};
 ghost use Rattle.lp_sparse.specs.SparseRows.{terms_of_rows};
 ghost use Rattle.lp_sparse.specs.SparseTableaus.{AreRows, dictionary_of};
 
+use crate::marks::marks_for;
 use crate::tableau::Tableau;
 use exact_lin::{Fraction, Narrow, NoMemory};
 use std::alloc::Global;
@@ -47,10 +48,12 @@ pub(crate) fn widen_tableau(
     let nonbasic = Vec::from_slice(alloc, &t.nonbasic)?;
     let rows = widen_rows(alloc, &t.rows)?;
     let cost = widen_row(alloc, &t.cost)?;
+    let marks = marks_for(alloc, &rows, t.marks.len())?;
     Ok(Tableau {
         basic,
         nonbasic,
         rows,
         cost,
+        marks,
     })
 }

@@ -20,15 +20,15 @@ pub returns-clause-rows : goal.returns-clause-rows
 returns-clause-rows g c =
     let t = c.args.t.now in
     let short : c.args.i < length t.basic.items = omega (arith, c.requires.row, c.requires.rows.basic) in
-    made-fits g.S.Scalar.value g.S.Scalar.limit t c.requires.rows c.args.i c.args.j (terms_of g.S.Scalar.value c.args.solution.items) c.requires.row c.requires.solved c.args.reckoned c.requires.reckoned _ c.place_rows.ensures c.put_changed.ensures
+    made-fits g.S.Scalar.value g.S.Scalar.limit t c.requires.rows c.args.i c.args.j (terms_of g.S.Scalar.value c.args.solution.items) c.requires.row c.requires.solved c.args.reckoned c.requires.reckoned _ c.place_rows.ensures.rows c.put_changed.ensures
     (ap (set t.basic.items c.args.i) (c.index.ensures ∙ get_or_default t.nonbasic.items c.args.j c.index.result.now 0 c.requires.column))
-    (ap (set t.nonbasic.items c.args.j) (c.index-leaving.ensures ∙ get_or_default t.basic.items c.args.i c.index-leaving.result.now 0 short))
+    (ap (set t.nonbasic.items c.args.j) (c.index-leaving.ensures ∙ get_or_default t.basic.items c.args.i c.index-leaving.result.now 0 short)) c.place_rows.ensures.marked
 
 pub returns-clause-pivot : goal.returns-clause-pivot
 returns-clause-pivot g c =
     let t = c.args.t.now in
     let short : c.args.i < length t.basic.items = omega (arith, c.requires.row, c.requires.rows.basic) in
-    let u : Tableau g.row.S.Denot = record { basic = with_item t.basic c.args.i c.index.result.now; nonbasic = with_item t.nonbasic c.args.j c.index-leaving.result.now; rows = c.place_rows.new.rows; cost = c.put_changed.new.place } in
-    made-pivoted g.S.Scalar.value g.S.Scalar.limit t c.requires.rows c.args.i c.args.j (terms_of g.S.Scalar.value c.args.solution.items) c.requires.row c.requires.solved c.args.reckoned c.requires.reckoned u c.place_rows.ensures c.put_changed.ensures
+    let u : Tableau g.row.S.Denot = record { basic = with_item t.basic c.args.i c.index.result.now; nonbasic = with_item t.nonbasic c.args.j c.index-leaving.result.now; rows = c.place_rows.new.rows; cost = c.put_changed.new.place; marks = c.place_rows.new.marks } in
+    made-pivoted g.S.Scalar.value g.S.Scalar.limit t c.requires.rows c.args.i c.args.j (terms_of g.S.Scalar.value c.args.solution.items) c.requires.row c.requires.solved c.args.reckoned c.requires.reckoned u c.place_rows.ensures.rows c.put_changed.ensures
     (ap (set t.basic.items c.args.i) (c.index.ensures ∙ get_or_default t.nonbasic.items c.args.j c.index.result.now 0 c.requires.column))
     (ap (set t.nonbasic.items c.args.j) (c.index-leaving.ensures ∙ get_or_default t.basic.items c.args.i c.index-leaving.result.now 0 short))
