@@ -1,46 +1,38 @@
 -- The actions and the snap actions of the ground task fit, and are numbered one after the other.
-use Rattle.std.proofs.Common.{◌≡◌, ◌⊎◌, inl, inr, refl, sym, ap, subst, ◌∙◌, ℕ, zero, suc, ◌+◌, ◌*◌, ◌<◌, ◌≤◌, arith, Bool, true, false, not, ◌&&◌, ◌||◌, nat_lt, nat_le, List, [], ◌∷◌, ◌++◌, map, length, Option, Some, None}
+use Rattle.std.proofs.Common.{◌≡◌, ◌⊎◌, inl, inr, refl, sym, ap, subst, ◌∙◌, ℕ, suc, ◌+◌, ◌≤◌, arith, Bool, true, false, not, ◌||◌, nat_lt, List, [], ◌∷◌, ◌++◌, map, length, Some, None}
 use Rattle.std.specs.Prelude.{if◌then◌else◌, is_some, is_none}
-use Rattle.std.specs.List.{AllByRecursion as Each, flat_map, filter, list_any, list_all, enumerate_from}
-use Rattle.std.specs.Str.{bytes_eq}
+use Rattle.std.specs.List.{AllByRecursion as Each, flat_map, list_any, list_all, enumerate_from}
 use Rattle.std.proofs.lemmas.List.{length-map, length-append}
-use Rattle.basics.proofs.Bools.{and_left, and_right, and_in, or_left, or_false_left, or_false_right}
-use Rattle.basics.proofs.Naturals.{le_in, le_out, lt_in}
-use Rattle.basics.proofs.Lists.{all_in, all_out, all_append}
-use Rattle.exact_lin.specs.Forms.{LinearForm}
+use Rattle.basics.proofs.Bools.{and_left, and_right, and_in, or_false_left, or_false_right}
+use Rattle.basics.proofs.Naturals.{le_in, le_out}
+use Rattle.basics.proofs.Lists.{all_in}
 use Rattle.rational.specs.Rational.{ℚ}
 use Rattle.task_types.specs.declared.actions.Action.{Action}
 use Rattle.task_types.specs.declared.actions.Bound.{Bound}
-use Rattle.task_types.specs.declared.actions.Schema.{Schema}
-use Rattle.task_types.specs.declared.actions.Snap.{Snap}
 use Rattle.task_types.specs.declared.actions.SnapKind.{SnapKind}
 use Rattle.task_types.specs.declared.actions.SnapKind.TheVariants as snap
 use Rattle.task_types.specs.declared.parts.TaskParts.{TaskParts}
-use Rattle.task_types.specs.Clash.{assigned_fluents}
 use Rattle.task_types.specs.Touch.{is_timed, is_start_or_end}
-use Rattle.task_types.specs.WellMade.{is_short, are_below, form_fits, condition_fits, is_instance, arguments_fit, action_fits, snap_fits, is_start, is_empty, changes_facts_alone, is_action}
+use Rattle.task_types.specs.WellMade.{is_short, are_below, form_fits, is_instance, action_fits, snap_fits, is_start, is_empty, changes_facts_alone}
 use Rattle.pddl_terms.specs.declared.trees.Comparison.{Comparison}
 use Rattle.pddl_terms.specs.declared.trees.Comparison.TheVariants.{Equal, AtMost, AtLeast, Below, Above}
-use Rattle.pddl_terms.specs.declared.files.ActionDef.{ActionDef}
 use Rattle.pddl_terms.specs.declared.files.Domain.{Domain}
 use Rattle.pddl_terms.specs.declared.files.Problem.{Problem}
 use Rattle.pddl_names.proofs.Ways.{text_itself}
 use Rattle.ground_world.specs.declared.changes.Stage.{Stage}
 use Rattle.ground_world.specs.declared.changes.Stage.TheVariants.{AtStart, OverAll, AtEnd}
-use Rattle.ground_world.specs.World.{World, columns}
 use Rattle.ground_world.specs.Changes.{parts_at, changes}
 use Rattle.ground_world.specs.FirstState.{world}
 use Rattle.ground_world.specs.Conditions.{DurationBound, body_bounds}
 use Rattle.ground_world.specs.Expressions.{reckoned, form_or_zero}
-use Rattle.grounder.specs.Instances.{Instance, env_of, conditions_of, no_unknowns, kept, assigned_by, is_twice}
-use Rattle.grounder.specs.Task.{Ground, grounding, over_fluents, bound_kinds, bounds, is_durative, snap_of, snaps_of, action_of, numbered_actions, action_snaps, effect, fluent_rates, action_condition}
+use Rattle.grounder.specs.Instances.{Instance, env_of, conditions_of, no_unknowns, assigned_by, is_twice}
+use Rattle.grounder.specs.Task.{Ground, grounding, over_fluents, bound_kinds, bounds, is_durative, snap_of, snaps_of, action_of, numbered_actions, action_snaps, fluent_rates, action_condition}
 use Rattle.grounder.specs.Accepted.{IsAccepted}
 use Rattle.grounder.proofs.Each.{each_weaker, each_both, each_map, each_flat_map, each_number, each_enumerated, each_everywhere}
 use Rattle.grounder.proofs.FormFacts.{form-ascends}
-use Rattle.grounder.proofs.Kept.{Sound, kept-sound}
+use Rattle.grounder.proofs.Kept.{Sound}
 use Rattle.grounder.proofs.Conditions.{IsOver, over_fluents-fits, condition-fits}
 use Rattle.grounder.proofs.Effects.{effect-fits, assigned-distinct, kept-assigns, rates-below}
-use Rattle.grounder.proofs.Passed.{greatest-each}
 use Rattle.grounder.proofs.Fields.{schema_of}
 
 any-map : {X Y : Type 0} (q : Y → Bool) (f : X → Y) (xs : List X) → list_any (λ x. q (f x)) xs ≡ true → list_any q (map f xs) ≡ true

@@ -1,6 +1,6 @@
 -- What is chosen from columns: as many objects as there are columns, each from its own.
-use Rattle.std.proofs.Common.{◌≡◌, refl, sym, ap, ◌∙◌, ℕ, zero, suc, ◌+◌, ◌<◌, ◌≤◌, arith, Bool, true, false, ◌&&◌, nat_lt, nat_le, ◌==◌, List, [], ◌∷◌, ◌++◌, map, length}
-use Rattle.std.specs.List.{AllByRecursion as Each, flat_map, list_any, list_all}
+use Rattle.std.proofs.Common.{◌≡◌, refl, sym, ap, ◌∙◌, ℕ, suc, true, nat_lt, nat_le, ◌==◌, List, [], ◌∷◌, map, length}
+use Rattle.std.specs.List.{AllByRecursion as Each, list_any, list_all}
 use Rattle.basics.proofs.Bools.{and_left, and_right, and_in}
 use Rattle.basics.proofs.Naturals.{same_itself, same_out}
 use Rattle.basics.proofs.Lists.{all_out}

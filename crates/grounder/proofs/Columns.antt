@@ -1,11 +1,10 @@
 -- The objects of columns, atoms and fluents are those of the world, and which atoms are bindings of what changes.
-use Rattle.std.proofs.Common.{◌≡◌, ◌⊎◌, inl, inr, ⊎_elim, refl, sym, ap, subst, ◌∙◌, ℕ, Bool, true, false, not, ◌&&◌, ◌||◌, nat_lt, nat_le, List, [], ◌∷◌, ◌++◌, map, cond, length, Option, Some, None}
+use Rattle.std.proofs.Common.{◌≡◌, ◌⊎◌, inl, inr, ⊎_elim, refl, sym, ap, subst, ◌∙◌, ℕ, Bool, true, false, ◌||◌, nat_le, List, [], ◌∷◌, map, cond, Some}
 use Rattle.std.specs.Prelude.{if◌then◌else◌, is_some}
-use Rattle.std.specs.List.{AllByRecursion as Each, flat_map, filter, list_any, list_all, enumerate_from}
+use Rattle.std.specs.List.{AllByRecursion as Each, flat_map, filter, list_any}
 use Rattle.std.specs.Str.{bytes_eq}
 use Rattle.std.proofs.lemmas.List.{length-map}
 use Rattle.std.proofs.lemmas.List.Folds.{list_any-append}
-use Rattle.basics.proofs.Bools.{and_left, and_right, and_in, or_left, or_right}
 use Rattle.pddl_names.specs.Declarations.{Text, Signature, among, value_of}
 use Rattle.pddl_names.proofs.Ways.{same_text}
 use Rattle.task_types.specs.WellMade.{is_short, are_below, arguments_fit}

@@ -1,20 +1,20 @@
 -- The conditions of kept bindings and their forms are within the task.
-use Rattle.std.proofs.Common.{◌≡◌, refl, sym, ap, subst, ◌∙◌, ℕ, ◌+◌, ◌<◌, ◌≤◌, arith, Bool, true, false, not, ◌&&◌, nat_lt, nat_le, List, [], ◌∷◌, ◌++◌, map, length}
+use Rattle.std.proofs.Common.{◌≡◌, refl, sym, ap, subst, ◌∙◌, ℕ, ◌≤◌, arith, Bool, true, false, nat_lt, List, [], map, length}
 use Rattle.std.specs.Prelude.{if◌then◌else◌}
-use Rattle.std.specs.List.{AllByRecursion as Each, flat_map, filter, list_all}
+use Rattle.std.specs.List.{AllByRecursion as Each, flat_map, filter}
 use Rattle.std.proofs.lemmas.List.{length-map}
-use Rattle.basics.proofs.Bools.{and_left, and_right, and_in}
+use Rattle.basics.proofs.Bools.{and_in}
 use Rattle.basics.proofs.Naturals.{le_in, le_out}
-use Rattle.basics.proofs.Lists.{all_in, all_out, all_left, all_right}
+use Rattle.basics.proofs.Lists.{all_in, all_out, all_left}
 use Rattle.exact_lin.specs.Forms.{LinearForm, IsForm}
 use Rattle.task_types.specs.declared.conditions.Literal.{Literal}
 use Rattle.task_types.specs.declared.parts.TaskParts.{TaskParts}
-use Rattle.task_types.specs.WellMade.{is_short, are_below, form_fits, forms_fit, condition_fits}
+use Rattle.task_types.specs.WellMade.{is_short, are_below, form_fits, condition_fits}
 use Rattle.pddl_terms.specs.declared.files.Domain.{Domain}
 use Rattle.pddl_terms.specs.declared.files.Problem.{Problem}
 use Rattle.pddl_names.specs.Declarations.{among}
 use Rattle.ground_world.specs.declared.changes.Stage.{Stage}
-use Rattle.ground_world.specs.World.{World, Env, GroundAtom, symbol, number_in}
+use Rattle.ground_world.specs.World.{GroundAtom, symbol, number_in}
 use Rattle.ground_world.specs.Changes.{parts_at, same_stage, changes}
 use Rattle.ground_world.specs.FirstState.{world}
 use Rattle.ground_world.specs.Conditions.{Part, Lit, Same, Compares, Test, test_forms}

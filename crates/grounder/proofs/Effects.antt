@@ -1,47 +1,45 @@
 -- The effects and rates of kept bindings are within the task, and no fluent is assigned twice.
-use Rattle.std.proofs.Common.{◌≡◌, ◌⊎◌, inl, inr, refl, sym, ap, ap₂, subst, ◌∙◌, ℕ, suc, ◌+◌, ◌<◌, ◌≤◌, arith, Bool, true, false, not, ◌&&◌, ◌||◌, ◌==◌, nat_lt, nat_le, List, [], ◌∷◌, ◌++◌, map, cond, length}
+use Rattle.std.proofs.Common.{◌≡◌, ◌⊎◌, inl, inr, refl, sym, ap, ap₂, subst, ◌∙◌, ℕ, suc, ◌+◌, ◌≤◌, arith, Bool, true, false, not, ◌||◌, ◌==◌, nat_lt, List, [], ◌∷◌, ◌++◌, map, cond, length}
 use Rattle.std.specs.Prelude.{if◌then◌else◌}
-use Rattle.std.specs.List.{AllByRecursion as Each, flat_map, filter, list_all, list_any, position_or_len}
+use Rattle.std.specs.List.{AllByRecursion as Each, flat_map, filter, list_any}
 use Rattle.std.specs.Str.{bytes_eq}
 use Rattle.std.specs.declared.cmp.Ordering.{Ordering}
 use Rattle.std.specs.declared.cmp.Ordering.TheVariants as ordering
 use Rattle.std.specs.Ordering.{MatchOrdering}
 use Rattle.std.proofs.lemmas.List.{length-map, length-append, map-append}
 use Rattle.basics.proofs.Bools.{and_left, and_right, and_in, or_left, or_right, not_true, or_false_left, or_false_right}
-use Rattle.basics.proofs.Naturals.{le_in, le_out, same_out, lt_out}
-use Rattle.basics.proofs.Lists.{all_in, all_out, all_left, all_right}
-use Rattle.rational.specs.Rational.{ℚ, zeroℚ, cmp_ℚ, ◌<ℚ◌}
+use Rattle.basics.proofs.Naturals.{le_in, le_out, same_out}
+use Rattle.basics.proofs.Lists.{all_in, all_out, all_right}
+use Rattle.rational.specs.Rational.{zeroℚ, cmp_ℚ, ◌<ℚ◌}
 use Rattle.rational.proofs.Comparisons.{cmp_ranks}
 use Rattle.rational.proofs.Order.{lt_irrefl}
 use Rattle.exact_lin.specs.Forms.{LinearForm, IsForm, coefficient}
 use Rattle.task_types.specs.declared.actions.SnapKind.{SnapKind}
-use Rattle.task_types.specs.declared.actions.SnapKind.TheVariants as snap
 use Rattle.task_types.specs.declared.conditions.Amount.{Amount}
 use Rattle.task_types.specs.declared.parts.TaskParts.{TaskParts}
 use Rattle.task_types.specs.Tests.{is_equal, ◌=?◌}
 use Rattle.task_types.specs.Sets.{is_in, are_distinct}
 use Rattle.task_types.specs.Touch.{is_start_or_end}
-use Rattle.task_types.specs.WellMade.{is_short, are_below, form_fits, amount_fits, changes_fit, effect_fits}
+use Rattle.task_types.specs.WellMade.{are_below, amount_fits, changes_fit, effect_fits}
 use Rattle.pddl_terms.specs.declared.trees.Atom.{Atom}
 use Rattle.pddl_terms.specs.declared.trees.ChangeKind.TheVariants.{Increase, Decrease, Assign}
 use Rattle.pddl_terms.specs.declared.trees.ExprTree.{ExprTree}
 use Rattle.pddl_terms.specs.declared.trees.RateTree.TheVariants as rate
 use Rattle.pddl_terms.specs.declared.files.Domain.{Domain}
 use Rattle.pddl_terms.specs.declared.files.Problem.{Problem}
-use Rattle.pddl_names.specs.Declarations.{Text, among}
+use Rattle.pddl_names.specs.Declarations.{among}
 use Rattle.pddl_names.proofs.Ways.{same_text, text_itself}
 use Rattle.ground_world.specs.declared.changes.Stage.{Stage}
-use Rattle.ground_world.specs.declared.changes.Stage.TheVariants.{AtStart, AtEnd}
-use Rattle.ground_world.specs.World.{World, Env, GroundAtom, ground_atom, ground_fluent, symbol, number_in, same_atom}
+use Rattle.ground_world.specs.World.{GroundAtom, ground_atom, ground_fluent, number_in, same_atom}
 use Rattle.ground_world.specs.Changes.{Staged, parts_at, same_stage, Change, Adds, Deletes, Moves, Flows, changes}
 use Rattle.ground_world.specs.FirstState.{world, has_value}
 use Rattle.ground_world.specs.Conditions.{body_bounds}
-use Rattle.ground_world.specs.Expressions.{own_unknown, reckoned, mentioned, form_or_zero, negative, zero_divisors}
-use Rattle.grounder.specs.Instances.{Instance, env_of, conditions_of, tests_of, no_unknowns, change_mentions, test_mentions, instance_mentions, instance_reckons, flaws_of, static_holds, reckons, assigned_by, is_twice, assigns_twice, is_kept}
+use Rattle.ground_world.specs.Expressions.{own_unknown, reckoned, mentioned, form_or_zero, negative}
+use Rattle.grounder.specs.Instances.{Instance, env_of, conditions_of, tests_of, no_unknowns, change_mentions, test_mentions, reckons, assigned_by, is_twice, assigns_twice, is_kept}
 use Rattle.grounder.specs.Terms.{part_atoms}
-use Rattle.grounder.specs.Task.{Ground, grounding, fact_number, fluent_number, over_fluents, amount, added_facts, deleted_facts, assigned_amounts, increased_amounts, effect, fluent_rates}
+use Rattle.grounder.specs.Task.{Ground, grounding, fluent_number, amount, added_facts, deleted_facts, assigned_amounts, increased_amounts, effect, fluent_rates}
 use Rattle.grounder.specs.Accepted.{is_binding, changed_atoms, IsAccepted}
-use Rattle.grounder.proofs.Each.{each_weaker, each_both, each_map, each_flat_map, flat_map_each, each_filter}
+use Rattle.grounder.proofs.Each.{each_weaker, each_map, each_flat_map, flat_map_each, each_filter}
 use Rattle.grounder.proofs.Placing.{number-within}
 use Rattle.grounder.proofs.FormFacts.{form-ascends, negative-ascends}
 use Rattle.grounder.proofs.Kept.{Sound, IsChange}

@@ -1,37 +1,34 @@
 -- The parts of the ground task, and that its objects, schemas, facts and fluents fit.
-use Rattle.std.proofs.Common.{◌≡◌, refl, sym, ap, subst, ◌∙◌, ℕ, zero, suc, ◌+◌, ◌<◌, ◌≤◌, arith, Bool, true, false, not, ◌&&◌, nat_lt, nat_le, List, [], ◌∷◌, ◌++◌, map, length, Option, Some, None}
-use Rattle.std.specs.Prelude.{slice_index_or, is_some}
-use Rattle.std.specs.List.{AllByRecursion as Each, flat_map, filter, list_all, enumerate_from}
+use Rattle.std.proofs.Common.{◌≡◌, refl, sym, ap, subst, ◌∙◌, ℕ, ◌+◌, ◌≤◌, arith, true, not, ◌&&◌, nat_le, List, [], ◌∷◌, ◌++◌, map, length}
+use Rattle.std.specs.Prelude.{slice_index_or}
+use Rattle.std.specs.List.{AllByRecursion as Each, list_all, enumerate_from}
 use Rattle.std.proofs.lemmas.List.{length-map}
 use Rattle.basics.proofs.Bools.{and_left, and_right, and_in}
-use Rattle.basics.proofs.Naturals.{le_in, le_out}
+use Rattle.basics.proofs.Naturals.{le_in}
 use Rattle.basics.proofs.Lists.{all_in, all_out}
 use Rattle.rational.specs.Rational.{ℚ, zeroℚ}
-use Rattle.task_types.specs.declared.actions.Action.{Action}
 use Rattle.task_types.specs.declared.actions.Schema.{Schema}
-use Rattle.task_types.specs.declared.actions.Snap.{Snap}
 use Rattle.task_types.specs.declared.parts.Fact.{Fact}
 use Rattle.task_types.specs.declared.parts.Fluent.{Fluent}
-use Rattle.task_types.specs.declared.parts.TaskParts.{TaskParts}
 use Rattle.task_types.specs.WellMade.{is_short, are_below, are_names, schema_fits}
 use Rattle.task_types.proofs.Assigning.{all_read}
 use Rattle.pddl_terms.specs.declared.files.ActionDef.{ActionDef}
 use Rattle.pddl_terms.specs.declared.files.Domain.{Domain}
 use Rattle.pddl_terms.specs.declared.files.Problem.{Problem}
-use Rattle.pddl_names.specs.Declarations.{Text, among, sorts_of}
-use Rattle.ground_world.specs.World.{World, either, GroundAtom, columns, symbol, arguments}
+use Rattle.pddl_names.specs.Declarations.{Text, sorts_of}
+use Rattle.ground_world.specs.World.{either, GroundAtom, columns, symbol, arguments}
 use Rattle.ground_world.specs.FirstState.{world, all_atoms, has_value}
 use Rattle.ground_world.specs.Leaves.{constraints, costs}
-use Rattle.grounder.specs.Instances.{Instance, kept}
+use Rattle.grounder.specs.Instances.{kept}
 use Rattle.grounder.specs.Terms.{goal_parts}
-use Rattle.grounder.specs.Task.{Ground, grounding, fact_atoms, mentioned_atoms, is_durative, numbered_actions, action_snaps, timings, moments, timed_snap, goal_condition, hard_terms, soft_terms, metric, ground_task}
+use Rattle.grounder.specs.Task.{grounding, fact_atoms, mentioned_atoms, is_durative, numbered_actions, action_snaps, timings, moments, timed_snap, goal_condition, hard_terms, soft_terms, metric, ground_task}
 use Rattle.grounder.specs.Accepted.{is_small, IsAccepted}
-use Rattle.grounder.proofs.Each.{each_weaker, each_both, each_map, each_filter}
+use Rattle.grounder.proofs.Each.{each_weaker, each_map, each_filter}
 use Rattle.grounder.proofs.Placing.{with_new-each}
 use Rattle.grounder.proofs.Columns.{columns-below}
 use Rattle.grounder.proofs.WorldFacts.{fitting-below, objects-short, facts-below, functions-below}
 use Rattle.grounder.proofs.Conditions.{IsOver}
-use Rattle.grounder.proofs.Passed.{IsPassed, Limited}
+use Rattle.grounder.proofs.Passed.{IsPassed}
 
 -- ---- the parts
 

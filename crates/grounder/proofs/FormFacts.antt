@@ -1,21 +1,18 @@
 -- The forms of reckoned expressions ascend, and those of the task have fluents of the task alone.
-use Rattle.std.proofs.Common.{◌≡◌, refl, sym, ap, subst, ◌∙◌, ℕ, zero, suc, ◌+◌, ◌<◌, ◌≤◌, arith, Bool, true, false, not, ◌&&◌, nat_lt, nat_le, List, [], ◌∷◌, ◌++◌, map, cond, length, Option, Some, None, pos}
+use Rattle.std.proofs.Common.{◌≡◌, refl, sym, subst, ℕ, ◌+◌, ◌<◌, ◌≤◌, arith, Bool, true, false, ◌&&◌, nat_lt, List, [], ◌∷◌, ◌++◌, map, cond, length, Option, Some, None, pos}
 use Rattle.std.specs.Prelude.{if◌then◌else◌}
-use Rattle.std.specs.List.{AllByRecursion as Each, flat_map, filter, list_all}
+use Rattle.std.specs.List.{AllByRecursion as Each, filter}
 use Rattle.std.proofs.lemmas.List.{length-map}
 use Rattle.basics.proofs.Bools.{and_in}
-use Rattle.basics.proofs.Naturals.{lt_in, lt_out, le_in, le_out}
-use Rattle.basics.proofs.Lists.{all_in, all_out}
+use Rattle.basics.proofs.Naturals.{lt_out, le_in}
+use Rattle.basics.proofs.Lists.{all_in}
 use Rattle.std.proofs.lemmas.Int.{ints}
 use Rattle.rational.specs.Rational.{ℚ, zeroℚ, whole, inverse, ◌*ℚ◌, ◌<ℚ◌}
 use Rattle.rational.proofs.Order.{lt_irrefl}
 use Rattle.rational.proofs.Inequalities.{whole_lt}
-use Rattle.exact_lin.specs.Forms.{LinearForm, Terms, AscendFrom, IsForm, constant_form, plus_scaled, is_zero, coefficient}
+use Rattle.exact_lin.specs.Forms.{LinearForm, Terms, AscendFrom, IsForm, constant_form, plus_scaled, is_zero}
 use Rattle.exact_lin.proofs.FormLaws.{AscendFrom-lower, AscendFrom-increased_by}
-use Rattle.task_types.specs.Clash.{form_fluents}
-use Rattle.task_types.specs.WellMade.{is_short, are_below}
-use Rattle.pddl_terms.specs.declared.trees.Name.{Name}
-use Rattle.pddl_terms.specs.declared.trees.Atom.{Atom}
+use Rattle.task_types.specs.WellMade.{are_below}
 use Rattle.pddl_terms.specs.declared.trees.Comparison.{Comparison}
 use Rattle.pddl_terms.specs.declared.trees.Comparison.TheVariants.{Equal, AtMost, AtLeast, Below, Above}
 use Rattle.pddl_terms.specs.declared.trees.ExprTree.{ExprTree}
@@ -26,7 +23,7 @@ use Rattle.ground_world.specs.Expressions.{Unknowns, Reckoned, reckoned, added, 
 use Rattle.ground_world.specs.Conditions.{Test, difference_form, difference, forms_of, test_forms}
 use Rattle.ground_world.proofs.Walks as walks
 use Rattle.grounder.proofs.Inductions.{each_expression}
-use Rattle.grounder.proofs.Each.{each_weaker, each_map}
+use Rattle.grounder.proofs.Each.{each_map}
 
 -- ---- how many terms there are
 

@@ -1,5 +1,5 @@
 -- Formulas of the task have facts of the task alone, and no more parts than are counted.
-use Rattle.std.proofs.Common.{◌≡◌, refl, sym, ap, subst, ◌∙◌, ℕ, zero, suc, ◌+◌, ◌*◌, ◌<◌, ◌≤◌, arith, Bool, true, false, not, ◌&&◌, ◌==◌, nat_lt, nat_le, List, [], ◌∷◌, ◌++◌, map, length}
+use Rattle.std.proofs.Common.{◌≡◌, refl, sym, ap, subst, ◌∙◌, ℕ, suc, ◌+◌, ◌*◌, ◌<◌, ◌≤◌, arith, Bool, true, false, ◌&&◌, ◌==◌, nat_lt, List, [], ◌∷◌, ◌++◌, map, length}
 use Rattle.std.specs.List.{AllByRecursion as Each, flat_map, list_all}
 use Rattle.std.proofs.lemmas.Bool.Decides.{nat_tests}
 use Rattle.std.proofs.lemmas.List.{length-map}
@@ -13,9 +13,7 @@ use Rattle.task_types.specs.declared.formulas.FactTree.TheOpen.{FactTree-F}
 use Rattle.task_types.specs.declared.formulas.FactTree.TheVariants as fact
 use Rattle.task_types.specs.declared.parts.TaskParts.{TaskParts}
 use Rattle.task_types.specs.WellMade.{is_short, parts_fit, tree_fits}
-use Rattle.pddl_terms.specs.declared.trees.Atom.{Atom}
 use Rattle.pddl_terms.specs.declared.trees.Group.{Group}
-use Rattle.pddl_terms.specs.declared.trees.Side.{Side}
 use Rattle.pddl_terms.specs.declared.trees.FactForm.{FactForm}
 use Rattle.pddl_terms.specs.declared.trees.FactForm.TheVariants as form
 use Rattle.pddl_names.specs.Declarations.{among}

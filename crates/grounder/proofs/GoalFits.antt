@@ -1,39 +1,24 @@
 -- Goals, preferences and constraints: their atoms are those that are mentioned, and their parts are counted.
-use Rattle.std.proofs.Common.{◌≡◌, ◌⊎◌, inl, inr, refl, sym, ap, subst, ◌∙◌, ℕ, zero, suc, ◌+◌, ◌*◌, ◌<◌, ◌≤◌, arith, Bool, true, false, not, ◌&&◌, ◌||◌, nat_lt, nat_le, List, [], ◌∷◌, ◌++◌, map, length, Option, Some, None}
-use Rattle.std.specs.Prelude.{if◌then◌else◌}
+use Rattle.std.proofs.Common.{◌≡◌, sym, subst, List, [], ◌∷◌, map, Option}
 use Rattle.std.specs.List.{AllByRecursion as Each, flat_map}
-use Rattle.std.proofs.lemmas.Bool.Decides.{nat_tests}
-use Rattle.std.proofs.lemmas.List.{length-append, nil_from_length}
-use Rattle.basics.proofs.Naturals.{le_out}
 use Rattle.basics.proofs.Lists.{each_left, each_right}
-use Rattle.pddl_terms.specs.declared.trees.Name.{Name}
 use Rattle.pddl_terms.specs.declared.trees.Group.{Group}
-use Rattle.pddl_terms.specs.declared.trees.Side.{Side}
-use Rattle.pddl_terms.specs.declared.trees.CondTree.{CondTree}
-use Rattle.pddl_terms.specs.declared.trees.CondTree.TheVariants as cond
-use Rattle.pddl_terms.specs.declared.trees.FactForm.{FactForm}
-use Rattle.pddl_terms.specs.declared.trees.FactForm.TheVariants as form
 use Rattle.pddl_terms.specs.declared.trees.SoftTree.{SoftTree}
-use Rattle.pddl_terms.specs.declared.trees.SoftTree.TheVariants as soft
 use Rattle.pddl_terms.specs.declared.trees.GoalTree.{GoalTree}
 use Rattle.pddl_terms.specs.declared.trees.GoalTree.TheVariants as goal
 use Rattle.pddl_terms.specs.declared.trees.Trajectory.{Trajectory}
-use Rattle.pddl_terms.specs.declared.trees.Trajectory.TheVariants as trail
 use Rattle.pddl_terms.specs.declared.trees.ConForm.{ConForm}
 use Rattle.pddl_terms.specs.declared.trees.ConForm.TheVariants as con
 use Rattle.pddl_names.specs.Declarations.{Text}
-use Rattle.pddl_names.specs.Equalities.{is_equality}
-use Rattle.ground_world.specs.World.{World, Env, either, GroundAtom, columns}
-use Rattle.ground_world.specs.Bindings.{bindings, nested_bindings, choice_count}
-use Rattle.ground_world.specs.Conditions.{Part, condition_parts, tests_in}
-use Rattle.ground_world.specs.Counts.{condition_count, formula_count, soft_count, trajectory_count, hard_count, goal_count_layer, somes, together, sum_or_one, written_out, equal_count, around_count, fit_limits}
-use Rattle.ground_world.specs.Leaves.{Leaf, Named, within, goal_preferences, constraint_leaves, name_or_anonymous}
+use Rattle.ground_world.specs.World.{World, Env, GroundAtom}
+use Rattle.ground_world.specs.Bindings.{bindings, nested_bindings}
+use Rattle.ground_world.specs.Conditions.{Part, condition_parts}
+use Rattle.ground_world.specs.Leaves.{Leaf, Named, within, goal_preferences, constraint_leaves}
 use Rattle.ground_world.proofs.Walks as below
-use Rattle.grounder.specs.Terms.{PreferencePart, OfFacts, OfNumbers, equal_preference, preference_parts, part_atoms, preference_atoms, goal_parts, goal_atoms, constraint_atoms, Watched, watched, watched_atoms}
+use Rattle.grounder.specs.Terms.{preference_parts, part_atoms, preference_atoms, goal_parts, goal_atoms, constraint_atoms, watched, watched_atoms}
 use Rattle.grounder.proofs.Walks as walks
-use Rattle.grounder.proofs.Inductions.{each_goal, each_constraint, each_preference}
-use Rattle.grounder.proofs.Each.{each_weaker, each_map, each_flat_map, flat_map_each, each_everywhere}
-use Rattle.grounder.proofs.Sizes.{weights, weights-append, weights-flat, weights-written, condition-counted, length-bindings, written-least, sum-least}
+use Rattle.grounder.proofs.Inductions.{each_goal, each_constraint}
+use Rattle.grounder.proofs.Each.{each_weaker, each_map, each_flat_map, flat_map_each}
 
 pub each_swap : {X Y : Type 0} (R : X → Y → Type 0) (xs : List X) (ys : List Y) → Each (λ x. Each (R x) ys) xs → Each (λ y. Each (λ x. R x y) xs) ys
 each_swap R xs [] h = tt

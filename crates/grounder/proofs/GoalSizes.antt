@@ -1,30 +1,26 @@
 -- How many parts goals, preferences and constraints have.
-use Rattle.std.proofs.Common.{◌≡◌, ◌⊎◌, inl, inr, refl, sym, ap, subst, ◌∙◌, ℕ, zero, suc, ◌+◌, ◌*◌, ◌<◌, ◌≤◌, arith, Bool, true, false, not, ◌&&◌, ◌||◌, nat_lt, nat_le, List, [], ◌∷◌, ◌++◌, map, length, Option, Some, None}
+use Rattle.std.proofs.Common.{◌≡◌, ◌⊎◌, inl, inr, refl, ap, ◌∙◌, ℕ, ◌+◌, ◌*◌, ◌<◌, ◌≤◌, arith, Bool, true, false, not, ◌&&◌, ◌||◌, nat_lt, nat_le, List, [], ◌∷◌, ◌++◌, map, length, Option, Some, None}
 use Rattle.std.specs.Prelude.{if◌then◌else◌}
 use Rattle.std.specs.List.{AllByRecursion as Each, flat_map}
 use Rattle.std.proofs.lemmas.Bool.Decides.{nat_tests}
-use Rattle.std.proofs.lemmas.List.{length-append, length-map, nil_from_length}
+use Rattle.std.proofs.lemmas.List.{length-append, nil_from_length}
 use Rattle.basics.proofs.Naturals.{le_out}
 use Rattle.pddl_terms.specs.declared.trees.Comparison.{Comparison}
 use Rattle.pddl_terms.specs.declared.trees.Comparison.TheVariants.{Equal, AtMost, AtLeast, Below, Above}
-use Rattle.pddl_terms.specs.declared.trees.Name.{Name}
 use Rattle.pddl_terms.specs.declared.trees.Group.{Group}
 use Rattle.pddl_terms.specs.declared.trees.Side.{Side}
-use Rattle.pddl_terms.specs.declared.trees.CondTree.{CondTree}
 use Rattle.pddl_terms.specs.declared.trees.CondTree.TheVariants as cond
-use Rattle.pddl_terms.specs.declared.trees.FactForm.{FactForm}
 use Rattle.pddl_terms.specs.declared.trees.FactForm.TheVariants as form
 use Rattle.pddl_terms.specs.declared.trees.SoftTree.{SoftTree}
 use Rattle.pddl_terms.specs.declared.trees.SoftTree.TheVariants as soft
 use Rattle.pddl_terms.specs.declared.trees.GoalTree.{GoalTree}
 use Rattle.pddl_terms.specs.declared.trees.GoalTree.TheVariants as goal
 use Rattle.pddl_names.specs.Equalities.{is_equality}
-use Rattle.task_types.specs.declared.conditions.Literal.{Literal}
 use Rattle.exact_lin.specs.Forms.{LinearForm}
-use Rattle.ground_world.specs.World.{World, Env, either, GroundAtom, columns, symbol}
-use Rattle.ground_world.specs.Bindings.{bindings, nested_bindings, choice_count}
-use Rattle.ground_world.specs.Conditions.{Part, Lit, Same, Compares, Test, difference, condition_parts, tests_in, forms_of, test_forms}
-use Rattle.ground_world.specs.Counts.{condition_count, compare_count, formula_count, soft_count, hard_count, goal_count, goal_count_layer, somes, together, sum_or_one, written_out, equal_count, around_count, fit_limits}
+use Rattle.ground_world.specs.World.{World, Env, either, GroundAtom, symbol}
+use Rattle.ground_world.specs.Bindings.{bindings, nested_bindings}
+use Rattle.ground_world.specs.Conditions.{Part, Lit, Same, Compares, Test, difference, condition_parts, tests_in, forms_of}
+use Rattle.ground_world.specs.Counts.{condition_count, compare_count, formula_count, soft_count, hard_count, goal_count, somes, together, sum_or_one, written_out, equal_count, around_count, fit_limits}
 use Rattle.ground_world.proofs.Walks as below
 use Rattle.grounder.specs.Terms.{PreferencePart, OfFacts, OfNumbers, equal_preference, preference_parts, formulas_in, comparisons_in, goal_parts}
 use Rattle.ground_world.specs.Expressions.{form_or_zero}

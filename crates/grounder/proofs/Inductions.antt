@@ -1,5 +1,5 @@
 -- What holds of each tree where it holds of its parts, holds of every tree. Made by a script from the enums.
-use Rattle.std.proofs.Common.{◌≡◌, sym, subst, ℕ, List, [], ◌∷◌, map, Option}
+use Rattle.std.proofs.Common.{sym, subst, ℕ, List, [], ◌∷◌, map, Option}
 use Rattle.std.specs.List.{AllByRecursion as Each}
 use Rattle.rational.specs.Rational.{ℚ}
 use Rattle.pddl_terms.specs.declared.trees.ExprTree.{ExprTree, ind-ExprTree, map-ExprTree, roll-ExprTree}

@@ -1,17 +1,17 @@
 -- What is known of each kept binding of an accepted domain and problem.
-use Rattle.std.proofs.Common.{◌≡◌, refl, sym, ap, subst, ◌∙◌, ℕ, ◌+◌, ◌<◌, ◌≤◌, arith, Bool, true, false, not, ◌&&◌, ◌||◌, nat_lt, nat_le, List, [], ◌∷◌, ◌++◌, map, length, append_assoc}
+use Rattle.std.proofs.Common.{◌≡◌, refl, sym, ap, subst, ◌∙◌, ℕ, arith, Bool, true, false, not, ◌&&◌, ◌||◌, nat_lt, nat_le, List, [], ◌∷◌, ◌++◌, length, append_assoc}
 use Rattle.std.specs.List.{AllByRecursion as Each, flat_map, filter, list_any, list_all}
 use Rattle.std.proofs.lemmas.List.{length-map, nil_from_length}
 use Rattle.std.proofs.lemmas.List.FromFn.{length-range_with_len}
 use Rattle.std.proofs.lemmas.Bool.Decides.{nat_tests}
-use Rattle.basics.proofs.Bools.{and_left, and_right, and_in, or_left}
+use Rattle.basics.proofs.Bools.{and_left, or_left}
 use Rattle.basics.proofs.Lists.{all_out}
 use Rattle.task_types.specs.WellMade.{arguments_fit}
 use Rattle.pddl_terms.specs.declared.files.ActionDef.{ActionDef}
 use Rattle.pddl_terms.specs.declared.files.Domain.{Domain}
 use Rattle.pddl_terms.specs.declared.files.Problem.{Problem}
 use Rattle.pddl_names.specs.Declarations.{Text}
-use Rattle.ground_world.specs.World.{World, columns}
+use Rattle.ground_world.specs.World.{columns}
 use Rattle.ground_world.specs.Bindings.{choices, choice_at, choice_count, numbers}
 use Rattle.ground_world.specs.Changes.{Change, changes}
 use Rattle.ground_world.specs.FirstState.{world, changed_predicate, changed_function, changed_predicates, changed_functions, timed_predicate}

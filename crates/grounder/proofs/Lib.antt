@@ -19,6 +19,7 @@ pub mod Fields
 pub mod ActionFields
 pub mod TermFields
 pub mod WellMade
+pub mod Counting
 pub mod ExampleBindings
 pub mod ExampleFacts
 pub mod ExampleComparisons

@@ -1,15 +1,15 @@
 -- Atoms and their numbers in a list, and lists that grow by what is new.
-use Rattle.std.proofs.Common.{◌≡◌, refl, sym, ap, subst, ◌∙◌, ℕ, zero, suc, ◌+◌, ◌<◌, ◌≤◌, arith, Bool, true, false, not, ◌&&◌, ◌||◌, nat_lt, List, [], ◌∷◌, ◌++◌, map, cond, length}
+use Rattle.std.proofs.Common.{◌≡◌, refl, sym, ap, ◌∙◌, suc, ◌+◌, ◌<◌, arith, Bool, true, false, not, ◌||◌, nat_lt, List, [], ◌∷◌, ◌++◌, cond, length}
 use Rattle.std.specs.Prelude.{if◌then◌else◌}
-use Rattle.std.specs.List.{AllByRecursion as Each, flat_map, filter, list_any, position_or_len}
+use Rattle.std.specs.List.{AllByRecursion as Each, filter, list_any, position_or_len}
 use Rattle.std.specs.Str.{bytes_eq}
 use Rattle.basics.proofs.Bools.{or_left, or_right}
-use Rattle.basics.proofs.Naturals.{lt_in, lt_out}
+use Rattle.basics.proofs.Naturals.{lt_in}
 use Rattle.basics.proofs.Lists.{each_append}
 use Rattle.pddl_names.specs.Declarations.{Text, among, with_new}
 use Rattle.pddl_names.proofs.Ways.{same_text, text_itself}
-use Rattle.ground_world.specs.World.{GroundAtom, number_in, symbol}
-use Rattle.grounder.proofs.Each.{any_left, any_right, any_of_each, each_found, each_weaker}
+use Rattle.ground_world.specs.World.{GroundAtom, number_in}
+use Rattle.grounder.proofs.Each.{any_left, any_right, each_found}
 
 place-within : {X : Type 0} (p : X → Bool) (xs : List X) → list_any p xs ≡ true → position_or_len p xs < length xs
 place-within p [] h = cc

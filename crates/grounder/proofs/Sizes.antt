@@ -1,5 +1,5 @@
 -- The parts of a condition are no more than are counted before anything is dropped.
-use Rattle.std.proofs.Common.{◌≡◌, refl, sym, ap, subst, ◌∙◌, ℕ, zero, suc, ◌+◌, ◌*◌, ◌<◌, ◌≤◌, arith, Bool, true, false, not, ◌==◌, List, [], ◌∷◌, ◌++◌, map, cond, length, Option, Some, None}
+use Rattle.std.proofs.Common.{◌≡◌, refl, ap, ◌∙◌, ℕ, ◌+◌, ◌*◌, ◌≤◌, arith, Bool, true, false, ◌==◌, List, [], ◌∷◌, ◌++◌, map, cond, length, Some, None}
 use Rattle.std.specs.Prelude.{if◌then◌else◌}
 use Rattle.std.specs.List.{AllByRecursion as Each, flat_map, filter}
 use Rattle.std.proofs.lemmas.Bool.Decides.{nat_tests}
@@ -21,7 +21,7 @@ use Rattle.pddl_terms.specs.declared.files.ActionBody.TheVariants.{Instant, Dura
 use Rattle.pddl_names.specs.Equalities.{is_equality}
 use Rattle.ground_world.specs.declared.changes.Stage.{Stage}
 use Rattle.ground_world.specs.declared.changes.Stage.TheVariants.{AtStart, OverAll, AtEnd}
-use Rattle.ground_world.specs.World.{World, Env, either, columns, variable_names}
+use Rattle.ground_world.specs.World.{World, Env, columns, variable_names}
 use Rattle.ground_world.specs.Bindings.{bindings, choices, choice_count, choice_at, numbers, paired}
 use Rattle.ground_world.specs.Changes.{Staged, staged, parts_at, same_stage}
 use Rattle.ground_world.specs.Conditions.{Part, Lit, Same, Compares, test, side_object, side_expression, equal_part, negated, condition_parts, timed_condition_parts, body_conditions}

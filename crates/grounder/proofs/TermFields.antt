@@ -1,5 +1,5 @@
 -- The timed steps, the goal, the constraints, the soft terms and the metric of the ground task fit.
-use Rattle.std.proofs.Common.{◌≡◌, ◌⊎◌, inl, inr, ⊎_elim, refl, sym, ap, subst, ◌∙◌, ℕ, zero, suc, ◌+◌, ◌<◌, ◌≤◌, arith, Bool, true, false, not, ◌&&◌, ◌||◌, nat_lt, nat_le, nat_eq, List, [], ◌∷◌, ◌++◌, map, length, Option, Some, None}
+use Rattle.std.proofs.Common.{◌≡◌, ⊎_elim, refl, sym, subst, ℕ, ◌<◌, ◌≤◌, arith, Bool, true, false, not, ◌&&◌, ◌||◌, nat_lt, nat_le, nat_eq, List, [], ◌∷◌, ◌++◌, map, length, Option, Some, None}
 use Rattle.std.specs.Prelude.{if◌then◌else◌}
 use Rattle.std.specs.List.{AllByRecursion as Each, flat_map, filter, list_all}
 use Rattle.std.proofs.lemmas.Bool.Decides.{nat_tests}
@@ -9,15 +9,13 @@ use Rattle.basics.proofs.Naturals.{le_in, le_out, lt_out}
 use Rattle.basics.proofs.Lists.{all_in, all_out, each_append, each_left, each_right}
 use Rattle.rational.specs.Rational.{ℚ, zeroℚ}
 use Rattle.rational.proofs.Inequalities.{le_from_eq}
-use Rattle.exact_lin.specs.Forms.{LinearForm, Terms, IsForm, coefficient, constant_form}
+use Rattle.exact_lin.specs.Forms.{LinearForm, Terms, IsForm, coefficient}
 use Rattle.task_types.specs.declared.conditions.Literal.{Literal}
-use Rattle.task_types.specs.declared.constraints.Trail.{Trail}
-use Rattle.task_types.specs.declared.costs.Soft.{Soft}
 use Rattle.task_types.specs.declared.costs.Soft.TheVariants as soft
 use Rattle.task_types.specs.declared.formulas.FactTree.{FactTree}
 use Rattle.task_types.specs.declared.parts.TaskParts.{TaskParts}
 use Rattle.task_types.specs.Tests.{◌<?◌, ◌≤?◌, ◌=?◌}
-use Rattle.task_types.specs.WellMade.{is_short, are_below, form_fits, forms_fit, condition_fits, snap_fits, tree_fits, trail_fits, soft_fits}
+use Rattle.task_types.specs.WellMade.{are_below, form_fits, condition_fits, snap_fits, tree_fits, trail_fits, soft_fits}
 use Rattle.task_types.proofs.Comparisons.{le_in as rational_le}
 use Rattle.pddl_terms.specs.declared.trees.FactForm.{FactForm}
 use Rattle.pddl_terms.specs.declared.trees.SoftTree.{SoftTree}
@@ -34,19 +32,19 @@ use Rattle.pddl_terms.specs.declared.files.InitEntry.TheVariants as init
 use Rattle.pddl_terms.specs.declared.files.Domain.{Domain}
 use Rattle.pddl_terms.specs.declared.files.Problem.{Problem}
 use Rattle.pddl_names.specs.Declarations.{Text, among}
-use Rattle.ground_world.specs.World.{World, Env, either, GroundAtom, ground_atom, symbol, number_in}
+use Rattle.ground_world.specs.World.{Env, either, GroundAtom, ground_atom, symbol}
 use Rattle.ground_world.specs.Bindings.{nested_bindings}
 use Rattle.ground_world.specs.Changes.{atoms_in, changes}
 use Rattle.ground_world.specs.FirstState.{world, changed_predicate, changed_predicates, timed_predicate}
-use Rattle.ground_world.specs.Conditions.{Part, Lit, Same, Compares, Test}
-use Rattle.ground_world.specs.Expressions.{own_unknown, preference_unknown, cost_unknown, unknown, reckoned, form_or_zero, negative, minus_one}
+use Rattle.ground_world.specs.Conditions.{Part, Lit, Same, Compares}
+use Rattle.ground_world.specs.Expressions.{own_unknown, preference_unknown, cost_unknown, unknown, reckoned, form_or_zero}
 use Rattle.ground_world.specs.Leaves.{Leaf, Named, Cost, goal_preferences, constraint_leaves, constraints, costs, leaf_envs, unknowns, toward, minimised}
 use Rattle.ground_world.specs.Counts.{bindings_fit, fit_limits, formula_count, soft_count, trajectory_count, goal_count, around_count}
 use Rattle.ground_world.proofs.Walks as below
-use Rattle.grounder.specs.Terms.{PreferencePart, part_atoms, preference_atoms, preference_parts, formulas_in, comparisons_in, formula, formula_atoms, goal_parts, goal_atoms, constraint_atoms, Watched, watched, watched_atoms}
-use Rattle.grounder.specs.Task.{Ground, grounding, fact_atoms, mentioned_atoms, fact_number, over_fluents, compared, literal_of, goal_forms_in, goal_condition, Timing, timing, timings, with_moment, moments, literals_at, timed_snap, metric, preference_weight, cost_weight, all_of, goal_soft, trail_of, hard_of, soft_of, piece_of, soft_cost, hard_terms, soft_terms}
+use Rattle.grounder.specs.Terms.{PreferencePart, part_atoms, preference_atoms, preference_parts, formulas_in, comparisons_in, formula, formula_atoms, goal_parts, goal_atoms, constraint_atoms, watched, watched_atoms}
+use Rattle.grounder.specs.Task.{grounding, fact_atoms, mentioned_atoms, fact_number, compared, literal_of, goal_forms_in, goal_condition, Timing, timing, timings, moments, literals_at, timed_snap, metric, preference_weight, cost_weight, all_of, goal_soft, trail_of, hard_of, soft_of, soft_cost, hard_terms, soft_terms}
 use Rattle.grounder.specs.Accepted.{is_binding, curve_fits, IsAccepted}
-use Rattle.grounder.proofs.Each.{each_weaker, each_both, each_map, map_each, each_flat_map, flat_map_each, each_filter, each_everywhere}
+use Rattle.grounder.proofs.Each.{filter-shorter, each_weaker, each_both, each_map, map_each, each_flat_map, flat_map_each, each_filter, each_everywhere}
 use Rattle.grounder.proofs.Placing.{with_new-has}
 use Rattle.grounder.proofs.Stepping.{Rising, rising-with}
 use Rattle.grounder.proofs.FormFacts.{unknown-ascends, form-ascends, negative-ascends}
@@ -109,14 +107,6 @@ module _ (d : Domain) (p : Problem) (ok : IsAccepted d p) (fit : bindings_fit (w
       (each_flat_map (λ l. (world d p).is_static (symbol l.atom) ≡ false) (timing (world d p)) p.init
       (each_weaker (λ e. Each (Within (changed_predicates d p)) (timed_predicate e)) (λ e. Each (λ l. (world d p).is_static (symbol l.atom) ≡ false) (timing (world d p) e)) timing-changes p.init timed-changed))
       (all_out (λ l. (zeroℚ <? l.moment) && is_binding (world d p) d.predicates l.atom) (flat_map (timing (world d p)) p.init) (and_right _ _ ok.timed)))
-
-  filter-shorter : {X : Type 0} (q : X → Bool) (xs : List X) → length (filter q xs) ≤ length xs
-  filter-shorter q [] = omega arith
-  filter-shorter q (x ∷ xs) = by (q x) (filter-shorter q xs)
-    where
-      by : (b : Bool) → length (filter q xs) ≤ length xs → length (if b then x ∷ filter q xs else filter q xs) ≤ suc (length xs)
-      by true h = omega arith
-      by false h = omega arith
 
   literals-below : (t : ℚ) (holds : Bool) → are_below (length task.facts) (literals_at (grounding d p) (timings (world d p) p.init) t holds) ≡ true
   literals-below t holds = and_in _ _

@@ -1,18 +1,17 @@
 -- The task that is made is well made.
-use Rattle.std.proofs.Common.{◌≡◌, ◌⊎◌, inl, inr, refl, sym, ap, subst, ◌∙◌, ℕ, zero, suc, ◌+◌, ◌<◌, ◌≤◌, arith, Bool, true, false, not, ◌&&◌, ◌==◌, nat_lt, nat_le, List, [], ◌∷◌, ◌++◌, map, length, Option, Some, None, Result, Ok, Err}
-use Rattle.std.specs.Prelude.{is_none, if◌then◌else◌}
+use Rattle.std.proofs.Common.{◌≡◌, refl, sym, ap, subst, ◌∙◌, ℕ, ◌+◌, ◌≤◌, arith, Bool, true, false, ◌&&◌, ◌==◌, nat_le, List, [], ◌∷◌, ◌++◌, map, length, Option, Some, None, Result, Ok, Err}
+use Rattle.std.specs.Prelude.{if◌then◌else◌}
 use Rattle.std.specs.List.{AllByRecursion as Each, flat_map, list_all, enumerate_from}
 use Rattle.std.proofs.lemmas.List.{length-map, length-append}
 use Rattle.std.proofs.lemmas.List.FromFn.{length-enumerate_from}
-use Rattle.basics.proofs.Bools.{and_left, and_right, and_in}
-use Rattle.basics.proofs.Naturals.{le_in, le_out, same_in}
-use Rattle.basics.proofs.Lists.{all_in, all_out, all_append}
+use Rattle.basics.proofs.Bools.{and_in}
+use Rattle.basics.proofs.Naturals.{le_in, same_in}
+use Rattle.basics.proofs.Lists.{all_in, all_append}
 use Rattle.rational.specs.Rational.{ℚ, zeroℚ}
 use Rattle.task_types.specs.declared.actions.Action.{Action}
 use Rattle.task_types.specs.declared.actions.Snap.{Snap}
 use Rattle.task_types.specs.declared.parts.TaskParts.{TaskParts}
 use Rattle.task_types.specs.Tests.{◌≤?◌, ◌=?◌}
-use Rattle.task_types.specs.Touch.{is_timed}
 use Rattle.task_types.specs.WellMade.{IsWellMade, is_short, action_fits, snap_fits, snap_total, are_numbered, are_timed, moments_ascend, condition_fits, trail_fits, soft_fits, form_fits}
 use Rattle.pddl_terms.specs.declared.files.Domain.{Domain}
 use Rattle.pddl_terms.specs.declared.files.Problem.{Problem}
@@ -24,8 +23,8 @@ use Rattle.ground_world.specs.FirstState.{world}
 use Rattle.ground_world.specs.Leaves.{constraints, costs}
 use Rattle.grounder.specs.declared.faults.GroundFault.{GroundFault}
 use Rattle.grounder.specs.Instances.{Instance, env_of, kept}
-use Rattle.grounder.specs.Task.{grounding, is_durative, snap_of, fluent_rates, numbered_actions, action_snaps, snaps_of, timings, moments, timed_snap, hard_terms, soft_terms, metric, ground_task}
-use Rattle.grounder.specs.Answer.{ground_fault, ground_answer, greatest}
+use Rattle.grounder.specs.Task.{grounding, is_durative, snap_of, fluent_rates, numbered_actions, action_snaps, snaps_of, timings, moments, timed_snap, hard_terms, soft_terms, ground_task}
+use Rattle.grounder.specs.Answer.{ground_fault, ground_answer}
 use Rattle.grounder.specs.Accepted.{IsAccepted}
 use Rattle.grounder.specs.Laws.{MadeTasksAreWellMade}
 use Rattle.grounder.proofs.Each.{each_map, each_everywhere}

@@ -1,34 +1,24 @@
 -- Of an accepted domain and problem: columns are below the objects, and the atoms and fluents of bindings are known.
-use Rattle.std.proofs.Common.{◌≡◌, refl, sym, ap, subst, ◌∙◌, ℕ, zero, suc, ◌+◌, ◌<◌, ◌≤◌, arith, Bool, true, false, not, ◌&&◌, ◌||◌, ◌==◌, nat_lt, nat_le, List, [], ◌∷◌, ◌++◌, map, cond, length, Option, Some, None}
-use Rattle.std.specs.Prelude.{if◌then◌else◌, is_some, IsTrue, slice_index_or}
-use Rattle.std.specs.List.{AllByRecursion as Each, flat_map, filter, list_any, list_all, enumerate_from}
+use Rattle.std.proofs.Common.{◌≡◌, ap, ℕ, ◌≤◌, arith, Bool, true, false, not, ◌==◌, nat_lt, List, map, length}
+use Rattle.std.specs.List.{AllByRecursion as Each, flat_map, filter, list_all, enumerate_from}
 use Rattle.std.proofs.lemmas.List.{length-map}
 use Rattle.std.proofs.lemmas.List.FromFn.{length-enumerate_from}
 use Rattle.basics.proofs.Bools.{and_left, and_right, and_in}
 use Rattle.basics.proofs.Naturals.{le_in, le_out, same_itself}
 use Rattle.basics.proofs.Lists.{all_in, all_out}
 use Rattle.task_types.specs.WellMade.{is_short, are_below}
-use Rattle.pddl_terms.specs.declared.trees.Atom.{Atom}
 use Rattle.pddl_terms.specs.declared.files.Domain.{Domain}
 use Rattle.pddl_terms.specs.declared.files.Problem.{Problem}
 use Rattle.pddl_names.specs.Declarations.{Text, Typed, Signature, among}
 use Rattle.pddl_names.specs.Fitting.{fits}
-use Rattle.ground_world.specs.World.{World, GroundAtom, place_in, symbol, arguments}
+use Rattle.ground_world.specs.World.{GroundAtom, place_in, symbol, arguments}
 use Rattle.ground_world.specs.FirstState.{types_of, objects_of, signatures_of, world, places_fitting, all_atoms, has_value, changed_predicates, changed_functions, given_value}
 use Rattle.grounder.specs.Task.{fact_atoms, mentioned_atoms}
 use Rattle.grounder.specs.Accepted.{is_binding, IsAccepted}
-use Rattle.grounder.proofs.Each.{each_weaker, each_map, each_filter, each_number, each_enumerated}
-use Rattle.grounder.proofs.Placing.{with_new-keeps, with_new-each, filter-has}
-use Rattle.grounder.proofs.Columns.{bound_to, bound-passes, atoms-below, value-given}
+use Rattle.grounder.proofs.Each.{filter-shorter, each_weaker, each_map, each_filter, each_number, each_enumerated}
+use Rattle.grounder.proofs.Placing.{with_new-keeps, filter-has}
+use Rattle.grounder.proofs.Columns.{bound-passes, atoms-below, value-given}
 use Rattle.grounder.proofs.Kept.{Within}
-
-filter-shorter : {X : Type 0} (q : X → Bool) (xs : List X) → length (filter q xs) ≤ length xs
-filter-shorter q [] = omega arith
-filter-shorter q (x ∷ xs) = by (q x) (filter-shorter q xs)
-  where
-    by : (b : Bool) → length (filter q xs) ≤ length xs → length (cond b (x ∷ filter q xs) (filter q xs)) ≤ suc (length xs)
-    by true h = omega arith
-    by false h = omega arith
 
 -- the places of the objects of a type
 pub places-below : (types objects : List Typed) (t : Text) → is_short (map {B = Text} (λ o. o.0) objects) ≡ true

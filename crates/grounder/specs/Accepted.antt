@@ -1,5 +1,5 @@
 -- Believed: what grounding asks of a domain and a problem, which their readers see to.
-use Rattle.std.specs.Prelude.{ℕ, Bool, true, ◌&&◌, ◌||◌, nat_lt, nat_le, IsTrue, List, [], ◌∷◌, ◌++◌, map, length}
+use Rattle.std.specs.Prelude.{Bool, true, ◌&&◌, ◌||◌, nat_lt, nat_le, IsTrue, List, [], ◌∷◌, ◌++◌, map, length}
 use Rattle.std.specs.List.{flat_map, list_all}
 use Rattle.rational.specs.Rational.{zeroℚ}
 use Rattle.task_types.specs.Tests.{◌<?◌, ◌≤?◌}

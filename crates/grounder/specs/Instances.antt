@@ -1,5 +1,5 @@
 -- Believed: the ground actions: the bindings whose static conditions hold and which no rule drops.
-use Rattle.std.specs.Prelude.{ℕ, Bool, true, false, ◌&&◌, ◌||◌, not, if◌then◌else◌, List, [], ◌∷◌, ◌++◌, map}
+use Rattle.std.specs.Prelude.{ℕ, Bool, false, ◌&&◌, ◌||◌, not, if◌then◌else◌, List, [], ◌∷◌, ◌++◌, map}
 use Rattle.std.specs.List.{flat_map, filter, list_all, list_any}
 use Rattle.pddl_terms.specs.declared.trees.ChangeKind.TheVariants.{Increase, Decrease, Assign}
 use Rattle.pddl_terms.specs.declared.trees.RateTree.TheVariants as rate

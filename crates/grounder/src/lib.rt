@@ -4,5 +4,7 @@
 pub mod examples;
 mod faults;
 pub mod laws;
+mod limits;
 
 pub use faults::{GroundFault, LimitName};
+pub use limits::limit_fault;
