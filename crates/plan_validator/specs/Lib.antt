@@ -1,0 +1,14 @@
+pub mod Judged
+pub mod Verdicts
+pub mod Laws
+pub mod Firsts
+pub mod Kinds
+pub mod Reasons
+pub mod Readings
+pub mod Ends
+pub mod Segments
+pub mod Clashes
+pub mod Following
+pub mod Watching
+pub mod Passing
+pub mod ExampleTask
