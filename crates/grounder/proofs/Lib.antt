@@ -20,6 +20,7 @@ pub mod ActionFields
 pub mod TermFields
 pub mod WellMade
 pub mod Counting
+pub mod Leasts
 pub mod ExampleBindings
 pub mod ExampleFacts
 pub mod ExampleComparisons

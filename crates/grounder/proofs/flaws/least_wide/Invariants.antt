@@ -1,0 +1,7 @@
+use Rattle.std.proofs.Common.{◌≡◌, [], take}
+use Rattle.ground_world.specs.Expressions.{wide_places, zero_divisors}
+use Rattle.grounder.specs.Answer.{least}
+use Rattle.grounder.proofs.flaws.least_wide.Given as goal
+
+abbrev pub invariant-loop-flaw : goal.invariant-loop-flaw
+invariant-loop-flaw l = (l.found ≡ least (wide_places (take l.flaw-index l.flaws))) × (zero_divisors (take l.flaw-index l.flaws) ≡ [])
