@@ -1,4 +1,4 @@
--- Believed: the words of a line of an ordering file as they stand in it.
+-- Private: the words of a line of an ordering file as they stand in it.
 use Rattle.plan_files.specs.declared.order_words.OrderText.{OrderText}
 use Rattle.plan_files.specs.declared.order_words.OrderText.TheVariants as text
 use Rattle.plan_files.specs.Tokens.{tokens}
