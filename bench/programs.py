@@ -211,10 +211,9 @@ class Dictionary:
 
     def pivot(self, row, column):
         """Makes the pivot: how many numbers changed, and how many a pivot without zeros reckons."""
-        by = 1 / self.rows[row][column]
-        solution = {j: -by * c for j, c in self.rows[row].items() if j != column}
-        solution[column] = by
-        changed = touched = len(solution)
+        old, by = self.rows[row], 1 / self.rows[row][column]
+        solution = {j: by if j == column else -by * c for j, c in old.items()}
+        changed, touched = sum(c != old[j] for j, c in solution.items()), len(solution)
         self.rows[row] = solution
         for i in self.columns[column] - {row}:
             more, less = self.replace(i, column, solution)
@@ -225,16 +224,17 @@ class Dictionary:
     def replace(self, i, column, solution):
         row = self.rows[i]
         touched = len(row.keys() | solution.keys())
-        factor = row.pop(column)
+        factor, changed = row[column], 0
         for j, c in solution.items():
-            total = row.get(j, 0) + factor * c
+            total = (0 if j == column else row.get(j, 0)) + factor * c
+            changed += total != row.get(j, 0)
             if total != 0:
                 row[j] = total
                 self.columns[j].add(i)
             else:
                 row.pop(j, None)
                 self.columns[j].discard(i)
-        return len(solution), touched
+        return changed, touched
 
 
 def chain(program, most=100_000):
