@@ -1,4 +1,4 @@
--- Private: the exact value of an expression, where each unknown has a value.
+-- Believed: the exact value of an expression, where each unknown has a value.
 use Rattle.std.specs.Prelude.{ℕ, ◌≡◌, if◌then◌else◌, List, [], ◌∷◌, Some, pos}
 use Rattle.rational.specs.Rational.{ℚ, zeroℚ, whole, ◌+ℚ◌, ◌*ℚ◌, ◌-ℚ◌, neg_ℚ, inverse}
 use Rattle.exact_lin.specs.Forms.{LinearForm, form_at}

@@ -1,4 +1,4 @@
--- Believed: the operations of expressions by their names, and what the code's operands stand for.
+-- Private: the operations of expressions by their names, and what the code's operands stand for.
 use Rattle.std.specs.Prelude.{ℕ, if◌then◌else◌, List, [], ◌∷◌, ◌++◌, Option, Some, None}
 use Rattle.exact_lin.specs.Forms.{LinearForm}
 use Rattle.ground_world.specs.World.{either}
