@@ -32,3 +32,6 @@ pub use names::Names;
 pub use offences::{Offence, Phase, earlier};
 pub use problems::{first_problem_name_offence, first_problem_type_offence};
 pub use tables::Table;
+
+#[cfg(test)]
+mod tests;
