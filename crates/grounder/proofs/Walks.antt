@@ -1,4 +1,4 @@
--- What each walk over a tree comes to at each variant: one step of its fold. Made by a script from the enums.
+-- What each walk over a tree comes to at each variant: one step of its fold.
 use Rattle.std.proofs.Common.{◌≡◌, sym, ap, ◌∙◌, ℕ, List, map, Option}
 use Rattle.pddl_terms.specs.declared.trees.FactForm.{FactForm, fold-FactForm, fold-roll-FactForm}
 use Rattle.pddl_terms.specs.declared.trees.FactForm.TheOpen.{FactForm-F}
