@@ -11,11 +11,6 @@ names_of_group : (t : Text) (ns : List Name)
 names_of_group t [] = refl
 names_of_group t (n ∷ ns) = ap (λ l. n.bytes ∷ l) (names_of_group t ns)
 
-sorts_of_group : (t : Text) (ns : List Name)
-    → map (λ v. v.1) (map (λ n. let v : Typed = (n.bytes, t) in v) ns) ≡ map (λ n. t) ns
-sorts_of_group t [] = refl
-sorts_of_group t (n ∷ ns) = ap (λ l. t ∷ l) (sorts_of_group t ns)
-
 columns_of_group : (w : World) (t : Text) (ns : List Name) → map w.fitting (map (λ n. t) ns) ≡ map (λ n. w.fitting t) ns
 columns_of_group w t [] = refl
 columns_of_group w t (n ∷ ns) = ap (λ l. w.fitting t ∷ l) (columns_of_group w t ns)
@@ -26,8 +21,7 @@ variable_names-cons g gs =
     map-append (λ v. v.0) (typed_of g) (typed gs) ∙ ap (λ l. l ++ variable_names gs) (names_of_group (type_bytes g.of) g.names)
 
 sorts_of-cons : (g : Group) (gs : List Group) → sorts_of (g ∷ gs) ≡ map (λ n. type_bytes g.of) g.names ++ sorts_of gs
-sorts_of-cons g gs =
-    map-append (λ v. v.1) (typed_of g) (typed gs) ∙ ap (λ l. l ++ sorts_of gs) (sorts_of_group (type_bytes g.of) g.names)
+sorts_of-cons g gs = refl
 
 pub columns-cons : (w : World) (g : Group) (gs : List Group)
     → columns w (g ∷ gs) ≡ map (λ n. w.fitting (type_bytes g.of)) g.names ++ columns w gs
