@@ -1,0 +1,5 @@
+pub mod Effects
+pub mod Timed
+pub mod Actions
+pub mod Domains
+pub mod Held

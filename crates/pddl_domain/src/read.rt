@@ -1,0 +1,30 @@
+//! The reader of domains.
+
+ghost use Rattle.std.specs.Prelude.{◌<◌, ◌^◌, length};
+ghost use Rattle.pddl_terms.specs.Files.{ReadsFile};
+ghost use Rattle.pddl_domain.specs.Domains.{wrong_domain, domain_told};
+
+use crate::domains::domain_tree;
+use pddl_terms::shape::first_wrong;
+use pddl_terms::{Domain, DomainLine, Kind, Line, PddlFault, Rest, tokens_of};
+use std::alloc::Global;
+
+/// Reads a domain as far as its shape says: the tree that the grammar derives, or the first fault of its tokens, or
+/// `Shape` at the first byte at which no accepted text can go on.
+pub fn read_shape(alloc: Global, text: &[u8]) -> Result<Domain, PddlFault>
+    requires { length text.now < 2 ^ 32 }
+    ensures { ReadsFile wrong_domain domain_told (λ _. None) text.now result }
+{
+    let forms = match tokens_of(alloc, text) {
+        Ok(forms) => forms,
+        Err(fault) => return Err(fault),
+    };
+    let line = Line::Domain(DomainLine::File);
+    if let Some(place) = first_wrong(&forms, 0, Rest::One(line)) {
+        return Err(PddlFault::At(Kind::Shape, place));
+    }
+    match domain_tree(alloc, &forms) {
+        Ok(domain) => Ok(domain),
+        Err(_) => Err(PddlFault::Memory),
+    }
+}
