@@ -12,4 +12,3 @@ pub mod Operations
 pub mod Readings
 pub mod Exact
 pub mod Laws
-pub mod Building
