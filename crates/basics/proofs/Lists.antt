@@ -1,8 +1,9 @@
 -- Lists: tests of all elements, facts of each, one more element, and elements by their places.
-use Rattle.std.proofs.Common.{◌≡◌, ◌⊎◌, inl, inr, ⊎_elim, refl, ap, ◌∙◌, ℕ, zero, suc, ◌+◌, ◌<◌, Bool, true, List, [], ◌∷◌, ◌++◌, length, map, slice_index_or, arith}
+use Rattle.std.proofs.Common.{◌≡◌, ◌⊎◌, inl, inr, ⊎_elim, refl, sym, ap, subst, ◌∙◌, ℕ, zero, suc, ◌+◌, ◌<◌, ◌≤◌, Bool, true, List, [], ◌∷◌, ◌++◌, length, map, slice_index_or, arith}
 use Rattle.std.specs.List.{AllByRecursion, list_all, filter, range_with_len}
 use Rattle.std.proofs.lemmas.List.{map-append}
 use Rattle.std.proofs.lemmas.List.Elements.{filter-append}
+use Rattle.std.proofs.lemmas.List.Sums.{length-filter, count_by-le-length}
 use Rattle.basics.proofs.Bools.{and_left, and_right, and_in}
 
 -- ---- tests of all elements
@@ -22,6 +23,10 @@ all_right p (x ∷ xs) ys h = all_right p xs ys (and_right (p x) (list_all p (xs
 pub all_weaker : {X : Type 0} (p q : X → Bool) → ((x : X) → p x ≡ true → q x ≡ true) → (xs : List X) → list_all p xs ≡ true → list_all q xs ≡ true
 all_weaker p q f [] h = refl
 all_weaker p q f (x ∷ xs) h = and_in (q x) (list_all q xs) (f x (and_left (p x) (list_all p xs) h)) (all_weaker p q f xs (and_right (p x) (list_all p xs) h))
+
+-- a filter keeps no more than there is
+pub filter-shorter : {X : Type 0} (p : X → Bool) (xs : List X) → length (filter p xs) ≤ length xs
+filter-shorter p xs = subst (λ n. n ≤ length xs) (sym (length-filter p xs)) (count_by-le-length p xs)
 
 -- a test of all elements, as a fact of each
 pub all_out : {X : Type 0} (p : X → Bool) (xs : List X) → list_all p xs ≡ true → AllByRecursion (λ x. p x ≡ true) xs

@@ -5,7 +5,7 @@ use Rattle.std.proofs.lemmas.List.{length-append, length-take, map-append}
 use Rattle.std.proofs.lemmas.List.Elements.{filter-append}
 use Rattle.ground_world.proofs.Steps.{taken}
 use Rattle.grounder.specs.Answer.{greatest}
-use Rattle.grounder.proofs.Each.{filter-shorter}
+use Rattle.basics.proofs.Lists.{filter-shorter}
 
 greatest-push : (ns : List ℕ) (n : ℕ) → greatest (ns ++ (n ∷ [])) ≡ max n (greatest ns)
 greatest-push [] n = refl

@@ -77,12 +77,3 @@ each_number n m (x ∷ xs) h = (lt_in n m (omega arith), each_number (n + 1) m x
 pub each_enumerated : {X : Type 0} (P : X → Type 0) (n : ℕ) (xs : List X) → Each P xs → Each (λ x. P x.1) (enumerate_from n xs)
 each_enumerated P n [] h = tt
 each_enumerated P n (x ∷ xs) h = (h.0, each_enumerated P (n + 1) xs h.1)
-
--- a filter keeps no more than there is
-pub filter-shorter : {X : Type 0} (q : X → Bool) (xs : List X) → length (filter q xs) ≤ length xs
-filter-shorter q [] = omega arith
-filter-shorter q (x ∷ xs) = by (q x) (filter-shorter q xs)
-  where
-    by : (b : Bool) → length (filter q xs) ≤ length xs → length (cond b (x ∷ filter q xs) (filter q xs)) ≤ suc (length xs)
-    by true h = omega arith
-    by false h = omega arith

@@ -3,6 +3,7 @@ use Rattle.std.proofs.Common.{◌≡◌, refl, sym, ap, subst, ◌∙◌, ℕ, �
 use Rattle.std.specs.Prelude.{slice_index_or}
 use Rattle.std.specs.List.{list_all}
 use Rattle.std.proofs.lemmas.List.{drop_more}
+use Rattle.std.proofs.Math.Bool.{and-true}
 use Rattle.basics.proofs.Bools.{and_assoc}
 use Rattle.rational.specs.Rational.{ℚ}
 use Rattle.exact_lin.specs.Forms.{LinearForm}
@@ -39,9 +40,5 @@ module _ (fluents : ℕ → ℚ) (forms : List LinearForm) (all : Bool) (i : ℕ
   pub hold-stop : ¬ (Defined (Value form fluents ∷ [])) → ¬ (Defined (reckoned fluents forms))
   hold-stop n = λ d. n ((at_form.onward d).0, tt)
 
-and_true : (b : Bool) → (b && true) ≡ b
-and_true true = refl
-and_true false = refl
-
 pub hold-end : (fluents : ℕ → ℚ) (forms : List LinearForm) (all : Bool) → HoldSoFar fluents forms all [] → Defined (reckoned fluents forms) × (all ≡ hold fluents forms)
-hold-end fluents forms all s = (s.back tt, sym (and_true all) ∙ s.value)
+hold-end fluents forms all s = (s.back tt, sym (and-true all) ∙ s.value)

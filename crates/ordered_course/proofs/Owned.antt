@@ -14,31 +14,10 @@ use Rattle.task_types.specs.WellMade.{IsWellMade, same_kind, is_number, is_snap_
 use Rattle.basics.proofs.Bools.{and_left, and_right}
 use Rattle.basics.proofs.Naturals.{same_out}
 use Rattle.task_types.proofs.Assigning.{at_read}
+use Rattle.task_types.proofs.SnapTests.{timed_out, snap_out}
 use Rattle.ordered_course.proofs.Listed.{AreOwned}
 
 -- ---- what one number says
-
-kind_is : (k l : SnapKind) → same_kind k l ≡ true → k ≡ l
-kind_is Start Start h = refl
-kind_is End End h = refl
-kind_is Instant Instant h = refl
-kind_is Timed Timed h = refl
-kind_is Start End h = let c : false ≡ true = h in cc
-kind_is Start Instant h = let c : false ≡ true = h in cc
-kind_is Start Timed h = let c : false ≡ true = h in cc
-kind_is End Start h = let c : false ≡ true = h in cc
-kind_is End Instant h = let c : false ≡ true = h in cc
-kind_is End Timed h = let c : false ≡ true = h in cc
-kind_is Instant Start h = let c : false ≡ true = h in cc
-kind_is Instant End h = let c : false ≡ true = h in cc
-kind_is Instant Timed h = let c : false ≡ true = h in cc
-kind_is Timed Start h = let c : false ≡ true = h in cc
-kind_is Timed End h = let c : false ≡ true = h in cc
-kind_is Timed Instant h = let c : false ≡ true = h in cc
-
-action_is : (o : Option ℕ) (a : ℕ) → is_number o a ≡ true → o ≡ Some a
-action_is None a h = let c : false ≡ true = h in cc
-action_is (Some b) a h = ap Some (same_out b a h)
 
 pub record IsSnap (task : TaskParts) (n : ℕ) (k : SnapKind) (a : ℕ) : Type 0 where
   pub kind : (snap_of task n).kind ≡ k
@@ -46,8 +25,7 @@ pub record IsSnap (task : TaskParts) (n : ℕ) (k : SnapKind) (a : ℕ) : Type 0
 
 -- kind Timed or an action that isn't there: what stands past the end has no action
 snap_is : (task : TaskParts) (n : ℕ) (k : SnapKind) (a : ℕ) → is_snap_of task n k a ≡ true → IsSnap task n k a
-snap_is task n k a h = let r : (same_kind (snap_of task n).kind k && is_number (snap_of task n).action a) ≡ true = at_read (λ s. same_kind s.kind k && is_number s.action a) no_snap task.snaps n h in
-    record { kind = kind_is (snap_of task n).kind k (and_left _ _ r); action = action_is (snap_of task n).action a (and_right _ _ r) }
+snap_is task n k a h = record { kind = (snap_out task n k a h).0; action = (snap_out task n k a h).1 }
 
 -- ---- which action a number belongs to
 
@@ -124,12 +102,6 @@ timed_in : (task : TaskParts) (us : List (ℚ × ℕ)) (n s : ℕ) → are_timed
 timed_in task [] n s h l r = absurd (omega (arith, l, r))
 timed_in task (u ∷ us) n s h l r = go (s == n) refl (λ m k. timed_in task us (n + 1) s (and_right _ _ h) m k)
   where
-    is_so : (k : SnapKind) → is_timed k ≡ true → k ≡ Timed
-    is_so Timed e = refl
-    is_so Start e = let c : false ≡ true = e in cc
-    is_so End e = let c : false ≡ true = e in cc
-    is_so Instant e = let c : false ≡ true = e in cc
-
     here : is_timed (snap_of task n).kind ≡ true
     here = and_left (is_timed (snap_of task n).kind) (is_none (snap_of task n).action) (at_read (λ s. is_timed s.kind && is_none s.action) no_snap task.snaps n (and_right (u.1 == n) (at task.snaps n (λ s. is_timed s.kind && is_none s.action)) (and_left (u.1 == n && at task.snaps n (λ s. is_timed s.kind && is_none s.action)) (are_timed task (n + 1) us) h)))
 
@@ -140,7 +112,7 @@ timed_in task (u ∷ us) n s h l r = go (s == n) refl (λ m k. timed_in task us 
     shorter s n m r = omega (arith, r)
 
     go : (b : Bool) → (s == n) ≡ b → (n + 1 ≤ s → s < (n + 1) + length us → (snap_of task s).kind ≡ Timed) → (snap_of task s).kind ≡ Timed
-    go true e f = subst (λ k. (snap_of task k).kind ≡ Timed) (sym (same_out s n e)) (is_so (snap_of task n).kind here)
+    go true e f = subst (λ k. (snap_of task k).kind ≡ Timed) (sym (same_out s n e)) (timed_out (snap_of task n).kind here)
     go false e f = f (above s n e l) (shorter s n (length us) r)
 
 past_end : (snaps : List Snap) (s : ℕ) → length snaps ≤ s → slice_index_or snaps s no_snap ≡ no_snap

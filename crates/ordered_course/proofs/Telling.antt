@@ -35,7 +35,8 @@ use Rattle.ordered_course.proofs.Lines.{closed_listed}
 use Rattle.ordered_course.proofs.Owned.{are_owned}
 use Rattle.ordered_course.proofs.PlanRates.{IsDurative, IsInstant, plan_rates}
 use Rattle.ordered_course.proofs.Splitting.{split, steps-numbered, of_moment, plan_listed-is}
-use Rattle.ordered_course.proofs.TimedSteps.{Follow, is_timed_out, timed_from}
+use Rattle.task_types.proofs.SnapTests.{timed_out}
+use Rattle.ordered_course.proofs.TimedSteps.{Follow, timed_from}
 
 -- ---- what a well made task and a closed ordering say
 
@@ -81,7 +82,7 @@ placed_so task rules o times h = record { lengths = same_out _ _ (and_left _ _ (
 -- the timed steps of a task are timed
 pub timed_kinds : (task : TaskParts) (us : List (ℚ × ℕ)) (n : ℕ) → are_timed task n us ≡ true → AllByRecursion (λ u. (snap_of task u.1).kind ≡ Timed) us
 timed_kinds task [] n h = tt
-timed_kinds task (u ∷ us) n h = (ap (λ m. (snap_of task m).kind) (same_out u.1 n (and_left _ _ (and_left _ _ h))) ∙ is_timed_out (snap_of task n).kind here, timed_kinds task us (n + 1) (and_right _ _ h))
+timed_kinds task (u ∷ us) n h = (ap (λ m. (snap_of task m).kind) (same_out u.1 n (and_left _ _ (and_left _ _ h))) ∙ timed_out (snap_of task n).kind here, timed_kinds task us (n + 1) (and_right _ _ h))
   where
     here : is_timed (snap_of task n).kind ≡ true
     here = and_left (is_timed (snap_of task n).kind) (is_none (snap_of task n).action) (at_read (λ s. is_timed s.kind && is_none s.action) no_snap task.snaps n (and_right (u.1 == n) (at task.snaps n (λ s. is_timed s.kind && is_none s.action)) (and_left (u.1 == n && at task.snaps n (λ s. is_timed s.kind && is_none s.action)) (are_timed task (n + 1) us) h)))

@@ -17,6 +17,7 @@ use Rattle.task_types.specs.Touch.{is_timed}
 use Rattle.task_types.specs.Order.{may_follow, timed_count}
 use Rattle.task_types.specs.Agreement.{is_placed}
 use Rattle.task_types.specs.WellMade.{are_timed, moments_ascend}
+use Rattle.task_types.proofs.SnapTests.{timed_out}
 use Rattle.ordering.proofs.MoreSteps.{timed_more}
 use Rattle.ordered_course.specs.Lines.{duration_listed, started_on, steps_listed}
 use Rattle.ordered_course.proofs.Moments.{moment_is, later_above}
@@ -28,12 +29,6 @@ Follow task steps = (k : ℕ) → k < length steps → may_follow task (take k s
 
 abbrev moment_step : ℚ × ℕ → Step
 moment_step u = record { time = u.0; snap = u.1; duration = zeroℚ }
-
-pub is_timed_out : (k : SnapKind) → is_timed k ≡ true → k ≡ Timed
-is_timed_out Start e = let c : false ≡ true = e in cc
-is_timed_out End e = let c : false ≡ true = e in cc
-is_timed_out Instant e = let c : false ≡ true = e in cc
-is_timed_out Timed e = refl
 
 -- what a step at the seam of two parts is told
 pub follows_here : (task : TaskParts) (pre suf : List ℕ) (s : ℕ) → Follow task (pre ++ s ∷ suf) → may_follow task pre s (snap_of task s).kind ≡ true
@@ -52,7 +47,7 @@ module _ (task : TaskParts) (rules : Rules) (n : ℕ) (numbered : are_timed task
   -- a timed step is the next moment of the task
   next_moment : (pre : List ℕ) (s : ℕ) (t : ℚ) → is_timed (snap_of task s).kind ≡ true → may_follow task pre s (snap_of task s).kind ≡ true → is_placed task rules s t ≡ true
       → drop (timed_count task pre) task.timed ≡ (t, s) ∷ drop (suc (timed_count task pre)) task.timed
-  next_moment pre s t k m p = moment_is task task.timed n (timed_count task pre) s t numbered (subst (λ x. may_follow task pre s x ≡ true) (is_timed_out (snap_of task s).kind k) m) (placed (is_timed (snap_of task s).kind) k p)
+  next_moment pre s t k m p = moment_is task task.timed n (timed_count task pre) s t numbered (subst (λ x. may_follow task pre s x ≡ true) (timed_out (snap_of task s).kind k) m) (placed (is_timed (snap_of task s).kind) k p)
     where
       placed : (b : Bool) → b ≡ true → (if b then list_any (λ m. (m.1 == s) && (m.0 =? t)) task.timed else ((zeroℚ ≤? t) && (t ≤? rules.horizon))) ≡ true → list_any (λ m. (m.1 == s) && (m.0 =? t)) task.timed ≡ true
       placed true e p = p
@@ -104,7 +99,7 @@ module _ (task : TaskParts) (rules : Rules) (n : ℕ) (numbered : are_timed task
           → filter (of_moment task) (steps_listed task (started_on (snap_of task s).kind (snap_of task s).action t started) (zip suf ts)) ≡ map moment_step (take (timed_count task suf) (drop (timed_count task (pre ++ s ∷ [])) task.timed))
           → filter (of_moment task) (steps_listed task started (zip (s ∷ suf) (t ∷ ts))) ≡ map moment_step (take (timed_count task (s ∷ suf)) (drop (timed_count task pre) task.timed))
       go true e r = ap (λ c. cond c (here ∷ rest) rest) e
-          ∙ ap₂ (λ (y : Step) (ys : List Step). y ∷ ys) (ap (step_with t s) (no_duration (snap_of task s).kind (is_timed_out (snap_of task s).kind e) (snap_of task s).action)) (r ∙ ap (λ c. map moment_step (take (timed_count task suf) (drop c task.timed))) (counted pre s true e ∙ one_more (timed_count task pre)))
+          ∙ ap₂ (λ (y : Step) (ys : List Step). y ∷ ys) (ap (step_with t s) (no_duration (snap_of task s).kind (timed_out (snap_of task s).kind e) (snap_of task s).action)) (r ∙ ap (λ c. map moment_step (take (timed_count task suf) (drop c task.timed))) (counted pre s true e ∙ one_more (timed_count task pre)))
           ∙ sym (ap (λ c. map moment_step (take c (drop (timed_count task pre) task.timed))) (first_counted true e ∙ one_first (timed_count task suf)) ∙ ap (λ l. map moment_step (take (suc (timed_count task suf)) l)) (next_moment pre s t e (follows_here task pre suf s f) (and_left (is_placed task rules s t) (list_all (λ p. is_placed task rules p.0 p.1) (zip suf ts)) p)))
       go false e r = ap (λ c. cond c (here ∷ rest) rest) e ∙ r
           ∙ ap₂ (λ (c d : ℕ). map moment_step (take c (drop d task.timed))) (sym (first_counted false e ∙ none_first (timed_count task suf))) (counted pre s false e ∙ none_more (timed_count task pre))

@@ -7,6 +7,7 @@ use Rattle.std.proofs.lemmas.Bool.Decides.{nat_tests}
 use Rattle.std.proofs.lemmas.List.{drop_more, drop_all}
 use Rattle.basics.specs.Texts.{is_digits, number, number_after}
 use Rattle.basics.proofs.Naturals.{lt_in}
+use Rattle.plan_text.proofs.DigitNumbers.{number_after-ge}
 use Rattle.plan_files.specs.OrderParts.{count_read}
 
 -- the first i bytes are digits, and stand for n
@@ -17,10 +18,6 @@ pub record CountLeft (bytes : List ℕ) (n i : ℕ) : Type 0 where
 
 pub count-begin : (bytes : List ℕ) → CountLeft bytes 0 0
 count-begin bytes = record { value = refl; digits = refl; below = omega arith }
-
-grows : (n : ℕ) (bytes : List ℕ) → n ≤ number_after n bytes
-grows n [] = omega arith
-grows n (b ∷ bs) = let h = grows (10 * n + (b - 48)) bs in omega (arith, h)
 
 module _ (bytes : List ℕ) (n i b : ℕ) (h : i < length bytes) (is : b ≡ slice_index_or bytes i 0) (c : CountLeft bytes n i) where
   here : drop i bytes ≡ b ∷ drop (i + 1) bytes
@@ -53,7 +50,7 @@ module _ (bytes : List ℕ) (n i b : ℕ) (h : i < length bytes) (is : b ≡ sli
 
       large : nat_lt (number bytes) 4294967296 ≡ false
       large =
-          let g = grows (10 * n + (b - 48)) (drop (i + 1) bytes) in
+          let g = number_after-ge (10 * n + (b - 48)) (drop (i + 1) bytes) in
           let m : 4294967296 ≤ number bytes = omega (arith, g, value_here) in
           grind (arith, nat_tests)
 

@@ -3,6 +3,7 @@ use Rattle.std.proofs.Common.{◌≡◌, refl, sym, ap, ◌∙◌, ℕ, Bool, tr
 use Rattle.std.specs.Prelude.{◌↔◌, option_to_list, unwrap_or, nat_lt, is_some, is_none}
 use Rattle.std.specs.List.{AllByRecursion, list_all, flat_map}
 use Rattle.std.proofs.lemmas.List.{append-nil}
+use Rattle.std.proofs.Math.Bool.{and-true}
 use Rattle.rational.specs.Rational.{ℚ, zeroℚ}
 use Rattle.basics.proofs.Bools.{and_right}
 use Rattle.task_types.specs.declared.actions.Action.{Action}
@@ -23,10 +24,6 @@ use Rattle.plan_validator.proofs.Choosing.{chosen_in, chosen_out}
 use Rattle.plan_validator.proofs.Snaps.{HasSnaps, durative, at_once}
 
 -- ---- small laws of tests
-
-and_true : (b : Bool) → (b && true) ≡ b
-and_true true = refl
-and_true false = refl
 
 all-both : {X : Type 0} (p q r : X → Bool) → ((x : X) → p x ≡ (q x && r x)) → (xs : List X) → list_all p xs ≡ (list_all q xs && list_all r xs)
 all-both p q r h [] = refl
@@ -85,7 +82,7 @@ module _ (task : TaskParts) (rules : Rules) (plan : Plan) where
 
         go : (c : Bool) → test (value b.form (before task plan (if c then end_of l else l.at)).fluents) ≡ ((not c ⇒ test (value b.form (before task plan l.at).fluents)) && (c ⇒ test (value b.form (before task plan (end_of l)).fluents)))
         go true = refl
-        go false = sym (and_true (test (value b.form (before task plan l.at).fluents)))
+        go false = sym (and-true (test (value b.form (before task plan l.at).fluents)))
 
     -- ---- durations
 
@@ -120,7 +117,7 @@ module _ (task : TaskParts) (rules : Rules) (plan : Plan) where
         d_is = ap (λ o. unwrap_or o zeroℚ) q
 
         go : (x y z : Bool) → (x && (y && z)) ≡ ((x && y) && (z && true))
-        go true true z = sym (and_true z)
+        go true true z = sym (and-true z)
         go true false z = refl
         go false y z = refl
 
@@ -136,10 +133,10 @@ module _ (task : TaskParts) (rules : Rules) (plan : Plan) where
 
     pub starts-by_steps : HasSnaps task l.action → can_start task plan l ≡ list_all start_test (line_steps task l)
     starts-by_steps (durative e h k a m b) = sym (ap (list_all start_test) (steps-are (Some e) h)
-        ∙ ap (λ n. as_start n (can_start task plan l) && (start_test (last e) && true)) k ∙ ap (λ n. can_start task plan l && (as_start n (holds (snap_of task e).condition (state_at (end_of l))) && true)) m ∙ and_true (can_start task plan l))
-    starts-by_steps (at_once h k) = sym (ap (list_all start_test) (steps-are None h) ∙ ap (λ n. as_start n (can_start task plan l) && true) k ∙ and_true (can_start task plan l))
+        ∙ ap (λ n. as_start n (can_start task plan l) && (start_test (last e) && true)) k ∙ ap (λ n. can_start task plan l && (as_start n (holds (snap_of task e).condition (state_at (end_of l))) && true)) m ∙ and-true (can_start task plan l))
+    starts-by_steps (at_once h k) = sym (ap (list_all start_test) (steps-are None h) ∙ ap (λ n. as_start n (can_start task plan l) && true) k ∙ and-true (can_start task plan l))
 
     pub ends-by_steps : HasSnaps task l.action → can_end task plan l ≡ list_all end_test (line_steps task l)
     ends-by_steps (durative e h k a m b) = ap (end_holds task plan l) h ∙ sym (ap (list_all end_test) (steps-are (Some e) h)
-        ∙ ap (λ n. as_end n (can_start task plan l) && (end_test (last e) && true)) k ∙ ap (λ n. as_end n (holds (snap_of task e).condition (state_at (end_of l))) && true) m ∙ and_true (holds (snap_of task e).condition (state_at (end_of l))))
+        ∙ ap (λ n. as_end n (can_start task plan l) && (end_test (last e) && true)) k ∙ ap (λ n. as_end n (holds (snap_of task e).condition (state_at (end_of l))) && true) m ∙ and-true (holds (snap_of task e).condition (state_at (end_of l))))
     ends-by_steps (at_once h k) = ap (end_holds task plan l) h ∙ sym (ap (list_all end_test) (steps-are None h) ∙ ap (λ n. as_end n (can_start task plan l) && true) k)

@@ -9,7 +9,7 @@ use Rattle.task_types.specs.declared.actions.SnapKind.TheVariants.{Start, End, I
 use Rattle.task_types.specs.declared.parts.TaskParts.{TaskParts}
 use Rattle.task_types.specs.Plan.{action_of, snap_of, no_action, no_snap}
 use Rattle.task_types.specs.WellMade.{IsWellMade, are_numbered, has_snaps, is_snap_of, is_number, same_kind, snap_count}
-use Rattle.task_types.proofs.Assigning.{at_read}
+use Rattle.task_types.proofs.SnapTests.{snap_out}
 
 -- a durative action has a start and an end, an instantaneous one its own snap action
 pub data HasSnaps (task : TaskParts) (a : ℕ) : Type 0 where
@@ -17,35 +17,7 @@ pub data HasSnaps (task : TaskParts) (a : ℕ) : Type 0 where
       → (snap_of task e).kind ≡ End → (snap_of task e).action ≡ Some a → HasSnaps task a
   at_once : (action_of task a).end ≡ None → (snap_of task (action_of task a).start).kind ≡ Instant → HasSnaps task a
 
-number_out : (o : Option ℕ) (a : ℕ) → is_number o a ≡ true → o ≡ Some a
-number_out None a e = cc
-number_out (Some m) a e = ap Some (same_out m a e)
-
-start_out : (k : SnapKind) → same_kind k Start ≡ true → k ≡ Start
-start_out Start e = refl
-start_out End e = cc
-start_out Instant e = cc
-start_out Timed e = cc
-
-end_out : (k : SnapKind) → same_kind k End ≡ true → k ≡ End
-end_out Start e = cc
-end_out End e = refl
-end_out Instant e = cc
-end_out Timed e = cc
-
-instant_out : (k : SnapKind) → same_kind k Instant ≡ true → k ≡ Instant
-instant_out Start e = cc
-instant_out End e = cc
-instant_out Instant e = refl
-instant_out Timed e = cc
-
 module _ (task : TaskParts) where
-  snap_out : (n : ℕ) (kind : SnapKind) (a : ℕ) → is_snap_of task n kind a ≡ true → (same_kind (snap_of task n).kind kind ≡ true) × ((snap_of task n).action ≡ Some a)
-  snap_out n kind a h = (and_left _ _ parts, number_out _ a (and_right _ _ parts))
-    where
-      parts : (same_kind (snap_of task n).kind kind && is_number (snap_of task n).action a) ≡ true
-      parts = at_read (λ s. same_kind s.kind kind && is_number s.action a) no_snap task.snaps n h
-
   numbered-at : (n a : ℕ) (xs : List Action) → are_numbered task n a xs ≡ true → (i : ℕ) → i < length xs → has_snaps task (slice_index_or xs i no_action).start (a + i) (slice_index_or xs i no_action).end ≡ true
   numbered-at n a [] h i l = absurd (omega (arith, l))
   numbered-at n a (x ∷ xs) h zero l = subst (λ m. has_snaps task m (a + 0) x.end ≡ true) (sym (same_out x.start n (and_left _ _ (and_left _ _ h)))) (subst (λ b. has_snaps task n b x.end ≡ true) (let z : a ≡ a + 0 = omega arith in z) (and_right _ _ (and_left _ _ h)))
@@ -56,6 +28,6 @@ module _ (task : TaskParts) where
   has-snaps w a l = go (action_of task a).end refl (subst (λ b. has_snaps task (action_of task a).start b (action_of task a).end ≡ true) (let z : 0 + a ≡ a = omega arith in z) (numbered-at 0 0 task.actions (and_right _ _ w.numbered) a l))
     where
       go : (o : Option ℕ) → (action_of task a).end ≡ o → has_snaps task (action_of task a).start a o ≡ true → HasSnaps task a
-      go None e h = at_once e (instant_out _ (snap_out (action_of task a).start Instant a h).0)
-      go (Some m) e h = durative m e (start_out _ (snap_out (action_of task a).start Start a (and_right _ _ (and_left _ _ h))).0) (snap_out (action_of task a).start Start a (and_right _ _ (and_left _ _ h))).1
-          (end_out _ (snap_out m End a (and_right _ _ h)).0) (snap_out m End a (and_right _ _ h)).1
+      go None e h = at_once e (snap_out task (action_of task a).start Instant a h).0
+      go (Some m) e h = durative m e (snap_out task (action_of task a).start Start a (and_right _ _ (and_left _ _ h))).0 (snap_out task (action_of task a).start Start a (and_right _ _ (and_left _ _ h))).1
+          (snap_out task m End a (and_right _ _ h)).0 (snap_out task m End a (and_right _ _ h)).1

@@ -16,16 +16,11 @@ use Rattle.task_types.specs.Clash.{own_action}
 use Rattle.task_types.specs.Touch.{is_timed}
 use Rattle.task_types.specs.WellMade.{IsWellMade, are_timed}
 use Rattle.task_types.proofs.Assigning.{at_read}
+use Rattle.task_types.proofs.SnapTests.{timed_out}
 use Rattle.timed_meaning.specs.Told.{timed_step}
 use Rattle.plan_validator.specs.Readings.{bound_read, is_long, as_start, as_end}
 use Rattle.plan_validator.specs.Watching.{fits_test, start_test, end_test}
 use Rattle.plan_validator.proofs.Lines.{all-true}
-
-timed_out : (k : SnapKind) → is_timed k ≡ true → k ≡ Timed
-timed_out Start e = cc
-timed_out End e = cc
-timed_out Instant e = cc
-timed_out Timed e = refl
 
 module _ (task : TaskParts) where
   kinds : (n : ℕ) (ts : List (ℚ × ℕ)) → are_timed task n ts ≡ true → AllByRecursion (λ t. (snap_of task t.1).kind ≡ Timed) ts

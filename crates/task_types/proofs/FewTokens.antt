@@ -14,14 +14,7 @@ use Rattle.task_types.specs.Touch.{tokens, comparison_tokens, tracked_fluents, t
 use Rattle.task_types.specs.WellMade.{IsWellMade, is_short, action_fits}
 use Rattle.basics.proofs.Bools.{and_left, and_right}
 use Rattle.basics.proofs.Naturals.{le_out}
-
-filter-shorter : {X : Type 0} (p : X → Bool) (xs : List X) → length (filter p xs) ≤ length xs
-filter-shorter p [] = omega arith
-filter-shorter p (x ∷ xs) = go (p x) (filter-shorter p xs)
-  where
-    go : (b : Bool) → length (filter p xs) ≤ length xs → length (cond b (x ∷ filter p xs) (filter p xs)) ≤ suc (length xs)
-    go true h = omega arith
-    go false h = omega arith
+use Rattle.basics.proofs.Lists.{filter-shorter}
 
 watches_few : (task : TaskParts) (a : ℕ) (action : Action) → action_fits task action ≡ true → length (comparison_tokens a action) ≤ 8
 watches_few task a action h =

@@ -18,6 +18,7 @@ use Rattle.task_types.specs.Touch.{is_timed}
 use Rattle.task_types.specs.Order.{Order}
 use Rattle.task_types.specs.WellMade.{IsWellMade, are_numbered, are_timed, has_snaps, is_snap_of, is_number, same_kind, snap_count, snap_total}
 use Rattle.task_types.proofs.Assigning.{at_read}
+use Rattle.task_types.proofs.SnapTests.{timed_out, snap_out}
 
 -- a snap action is timed, or its action is one of the task that is durative where the snap action is no instantaneous
 -- one
@@ -27,53 +28,18 @@ pub data IsOwned (task : TaskParts) (s : Snap) : Type 0 where
   ended : (a : ℕ) → s.kind ≡ End → s.action ≡ Some a → a < length task.actions → is_some (action_of task a).end ≡ true → IsOwned task s
   at_once : (a : ℕ) → s.kind ≡ Instant → s.action ≡ Some a → a < length task.actions → is_none (action_of task a).end ≡ true → IsOwned task s
 
-number_out : (o : Option ℕ) (a : ℕ) → is_number o a ≡ true → o ≡ Some a
-number_out None a e = cc
-number_out (Some m) a e = ap Some (same_out m a e)
-
-start_out : (k : SnapKind) → same_kind k Start ≡ true → k ≡ Start
-start_out Start e = refl
-start_out End e = cc
-start_out Instant e = cc
-start_out Timed e = cc
-
-end_out : (k : SnapKind) → same_kind k End ≡ true → k ≡ End
-end_out Start e = cc
-end_out End e = refl
-end_out Instant e = cc
-end_out Timed e = cc
-
-instant_out : (k : SnapKind) → same_kind k Instant ≡ true → k ≡ Instant
-instant_out Start e = cc
-instant_out End e = cc
-instant_out Instant e = refl
-instant_out Timed e = cc
-
-timed_out : (k : SnapKind) → is_timed k ≡ true → k ≡ Timed
-timed_out Start e = cc
-timed_out End e = cc
-timed_out Instant e = cc
-timed_out Timed e = refl
-
--- what the numbers of one action say
-snap_out : (task : TaskParts) (n : ℕ) (kind : SnapKind) (a : ℕ) → is_snap_of task n kind a ≡ true → (same_kind (snap_of task n).kind kind ≡ true) × ((snap_of task n).action ≡ Some a)
-snap_out task n kind a h = (and_left _ _ parts, number_out _ a (and_right _ _ parts))
-  where
-    parts : (same_kind (snap_of task n).kind kind && is_number (snap_of task n).action a) ≡ true
-    parts = at_read (λ s. same_kind s.kind kind && is_number s.action a) no_snap task.snaps n h
-
 -- what a durative action's numbers say
 has_both : (task : TaskParts) (n a m : ℕ) → has_snaps task n a (Some m) ≡ true → (m ≡ n + 1) × (is_snap_of task n Start a ≡ true) × (is_snap_of task m End a ≡ true)
 has_both task n a m h = (same_out m (n + 1) (and_left _ _ (and_left _ _ h)), and_right _ _ (and_left _ _ h), and_right _ _ h)
 
 owned_start : (task : TaskParts) (n a s : ℕ) → a < length task.actions → is_some (action_of task a).end ≡ true → is_snap_of task n Start a ≡ true → s ≡ n → IsOwned task (snap_of task s)
-owned_start task n a s l d h e = subst (λ m. IsOwned task (snap_of task m)) (sym e) (started a (start_out _ (snap_out task n Start a h).0) (snap_out task n Start a h).1 l d)
+owned_start task n a s l d h e = subst (λ m. IsOwned task (snap_of task m)) (sym e) (started a (snap_out task n Start a h).0 (snap_out task n Start a h).1 l d)
 
 owned_end : (task : TaskParts) (n a s : ℕ) → a < length task.actions → is_some (action_of task a).end ≡ true → is_snap_of task n End a ≡ true → s ≡ n → IsOwned task (snap_of task s)
-owned_end task n a s l d h e = subst (λ m. IsOwned task (snap_of task m)) (sym e) (ended a (end_out _ (snap_out task n End a h).0) (snap_out task n End a h).1 l d)
+owned_end task n a s l d h e = subst (λ m. IsOwned task (snap_of task m)) (sym e) (ended a (snap_out task n End a h).0 (snap_out task n End a h).1 l d)
 
 owned_once : (task : TaskParts) (n a s : ℕ) → a < length task.actions → is_none (action_of task a).end ≡ true → is_snap_of task n Instant a ≡ true → s ≡ n → IsOwned task (snap_of task s)
-owned_once task n a s l d h e = subst (λ m. IsOwned task (snap_of task m)) (sym e) (at_once a (instant_out _ (snap_out task n Instant a h).0) (snap_out task n Instant a h).1 l d)
+owned_once task n a s l d h e = subst (λ m. IsOwned task (snap_of task m)) (sym e) (at_once a (snap_out task n Instant a h).0 (snap_out task n Instant a h).1 l d)
 
 -- a snap action of one action
 owned_here : (task : TaskParts) (a n s : ℕ) (o : Option ℕ) → a < length task.actions → (action_of task a).end ≡ o → has_snaps task n a o ≡ true → n ≤ s → s < n + (if is_some o then 2 else 1) → IsOwned task (snap_of task s)

@@ -7,6 +7,7 @@ pub mod Alike
 pub mod Greatest
 pub mod Unordered
 pub mod Assigning
+pub mod SnapTests
 pub mod Formed
 pub mod Lines
 pub mod Segment
