@@ -1,5 +1,5 @@
 -- The functions that effects change, form by form, and how sets of names grow.
-use Rattle.std.proofs.Common.{◌≡◌, refl, sym, ap, ◌∙◌, ℕ, List, [], ◌∷◌, ◌++◌, if◌then◌else◌, length, ◌<◌, ◌≤◌, ◌+◌, take, get_or}
+use Rattle.std.proofs.Common.{◌≡◌, refl, sym, ap, ◌∙◌, ℕ, List, [], length, ◌<◌, ◌≤◌, ◌+◌, take, get_or}
 use Rattle.std.specs.List.{flat_map}
 use Rattle.pddl_terms.specs.declared.trees.EffTree.{EffTree, fold-EffTree, fold-roll-EffTree}
 use Rattle.pddl_terms.specs.declared.trees.EffTree.TheOpen.{EffTree-F}
@@ -13,8 +13,9 @@ use Rattle.pddl_terms.specs.declared.trees.Call.{Call}
 use Rattle.pddl_terms.specs.declared.trees.ChangeKind.{ChangeKind}
 use Rattle.pddl_terms.specs.declared.trees.RateTree.{RateTree}
 use Rattle.pddl_terms.specs.declared.trees.Trend.{Trend}
-use Rattle.pddl_names.specs.Declarations.{Text, among, with_new}
+use Rattle.pddl_names.specs.Declarations.{Text, with_new}
 use Rattle.pddl_forms.specs.Functions.{function_of, changed_layer, changed_by, timed_changed_layer, timed_changed_by}
+use Rattle.pddl_names.proofs.Doubling.{with_new-append}
 use Rattle.pddl_forms.proofs.Least.{concat-map, walk-next, walk-end}
 
 pub changed_by-empty : (at : ℕ) → changed_by (eff.Empty at) ≡ []
@@ -93,10 +94,6 @@ timed_changed_by-leftout at =
 
 pub with_new-none : (names : List Text) → with_new names [] ≡ names
 with_new-none names = refl
-
-pub with_new-append : (names xs ys : List Text) → with_new names (xs ++ ys) ≡ with_new (with_new names xs) ys
-with_new-append names [] ys = refl
-with_new-append names (x ∷ xs) ys = with_new-append (if among names x then names else names ++ (x ∷ [])) xs ys
 
 pub new-next : {A : Type 0} (f : A → List Text) (start names next : List Text) (xs : List A) (i : ℕ) (x : A) → i < length xs → x ≡ get_or xs i x
     → names ≡ with_new start (flat_map f (take i xs)) → next ≡ with_new names (f x) → next ≡ with_new start (flat_map f (take (i + 1) xs))

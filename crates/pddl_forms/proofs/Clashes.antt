@@ -19,7 +19,7 @@ use Rattle.pddl_forms.specs.Offences.{unless, least_with}
 use Rattle.pddl_forms.specs.TimedLiterals.{same_words, fact_words, same_number, same_fact, differ, clashes_behind}
 use Rattle.pddl_forms.specs.Keys.{key, keys_by, keys_of, is_seen_by, is_seen, clashes_seen}
 use Rattle.pddl_forms.proofs.KeysApart.{keys-apart, same_parts}
-use Rattle.pddl_forms.proofs.Changes.{with_new-append}
+use Rattle.pddl_names.proofs.Doubling.{with_new-append}
 use Rattle.pddl_forms.proofs.Least.{least_of}
 
 -- ---- what the tests decide

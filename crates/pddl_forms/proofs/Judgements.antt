@@ -1,5 +1,5 @@
 -- What is wrong in an expression, form by form.
-use Rattle.std.proofs.Common.{◌≡◌, refl, sym, ap, ◌∙◌, ℕ, Bool, true, false, not, ◌&&◌, List, [], ◌∷◌, ◌++◌, map, if◌then◌else◌, length, nat_le, ◌<◌, ◌≤◌, ◌+◌, take, get_or}
+use Rattle.std.proofs.Common.{◌≡◌, refl, sym, ap, ◌∙◌, ℕ, Bool, true, false, not, ◌&&◌, List, [], ◌∷◌, ◌++◌, map, if◌then◌else◌, length, Option, nat_le, ◌<◌, ◌≤◌, ◌+◌, take, get_or}
 use Rattle.std.specs.List.{flat_map}
 use Rattle.pddl_terms.specs.declared.trees.ExprTree.{ExprTree, fold-ExprTree, fold-roll-ExprTree}
 use Rattle.pddl_terms.specs.declared.trees.ExprTree.TheOpen.{ExprTree-F}
@@ -9,7 +9,7 @@ use Rattle.pddl_terms.specs.declared.trees.Name.{Name}
 use Rattle.rational.specs.Rational.{ℚ}
 use Rattle.pddl_terms.specs.declared.faults.Kind.TheVariants as kind
 use Rattle.pddl_forms.specs.declared.functions.Functions.{Functions}
-use Rattle.pddl_forms.specs.Offences.{offence, unless}
+use Rattle.pddl_forms.specs.Offences.{offence, unless, least_with}
 use Rattle.pddl_forms.specs.Functions.{is_static}
 use Rattle.std.specs.List.{filter, list_all}
 use Rattle.std.proofs.lemmas.List.{take_more, length-take}
@@ -17,7 +17,8 @@ use Rattle.std.proofs.Common.{suc, ap₂, nat_eq, arith}
 use Rattle.std.proofs.lemmas.Bool.Decides.{Decides-eqb}
 use Rattle.basics.proofs.Bools.{and_assoc}
 use Rattle.pddl_forms.specs.Expressions.{Judged, judged, all_offences, changing_count, expression_layer, judgement, is_constant, is_changing, expression_offences}
-use Rattle.pddl_forms.proofs.Least.{least_of}
+use Rattle.pddl_names.specs.declared.offences.Offence.{Offence}
+use Rattle.pddl_forms.proofs.Least.{least_of, least_with-append}
 
 list_all-map : {A : Type 0} (f : A → Judged) (xs : List A) → list_all (λ part. part.is_constant) (map f xs) ≡ list_all (λ x. (f x).is_constant) xs
 list_all-map f [] = refl
@@ -109,6 +110,25 @@ unfolding judgement
 judgement-timecost fs at n =
     ap (λ t. fold-ExprTree Judged (expression_layer fs) t) (sym (expr.rolls-TimeCost at n))
     ∙ fold-roll-ExprTree Judged (expression_layer fs) (ExprTree-F.TimeCost at n)
+
+-- ---- what is told of a form is told of the tree that is it
+module _ (fs : Functions) where
+  pub told-constant : {tree form : ExprTree} {j : Judged} {constant : Bool} → tree ≡ form → judgement fs form ≡ j
+      → constant ≡ j.is_constant → constant ≡ is_constant fs tree
+  told-constant e f h = h ∙ sym (ap (is_constant fs) e ∙ ap (λ (j : Judged). j.is_constant) f)
+
+  module _ (found : Option Offence) where
+    pub told-found : {tree form : ExprTree} {j : Judged} {next : Option Offence} → tree ≡ form → judgement fs form ≡ j
+        → next ≡ least_with found j.offences → next ≡ least_with found (expression_offences fs tree)
+    told-found e f h = h ∙ sym (ap (λ t. least_with found (expression_offences fs t)) e ∙ ap (λ (j : Judged). least_with found j.offences) f)
+
+    -- one part, and then another
+    pub two-found : {x y left right : ExprTree} {first second : Option Offence} → x ≡ left → y ≡ right
+        → first ≡ least_with found (expression_offences fs x) → second ≡ least_with first (expression_offences fs y)
+        → second ≡ least_with found (expression_offences fs left ++ expression_offences fs right)
+    two-found {left = left} {right = right} e f h k =
+        k ∙ ap₂ (λ a t. least_with a (expression_offences fs t)) (h ∙ ap (λ t. least_with found (expression_offences fs t)) e) f
+        ∙ sym (least_with-append found (expression_offences fs left) (expression_offences fs right))
 
 -- ---- one part more
 all-behind : {A : Type 0} (p : A → Bool) (x : A) (ys : List A) → list_all p (ys ++ x ∷ []) ≡ (list_all p ys && p x)

@@ -3,6 +3,7 @@ use Rattle.std.proofs.Common.{◌≡◌, refl, sym, ap, ◌∙◌, ℕ, ◌+◌,
 use Rattle.std.specs.List.{flat_map}
 use Rattle.std.proofs.lemmas.List.{take_more, take_all}
 use Rattle.std.proofs.lemmas.List.Concat.{flat_map-append}
+use Rattle.std.proofs.lemmas.List.Folds.{flat_map-map}
 use Rattle.pddl_names.specs.declared.offences.Offence.{Offence}
 use Rattle.pddl_names.specs.Offences.{earlier, least}
 use Rattle.pddl_names.proofs.Least.{earlier-none, earlier-assoc}
@@ -34,13 +35,11 @@ pub ruleset least_of = (least_with-none, least_with-one, least_with-append)
 
 -- lists joined, each made of an element
 pub concat-map : {A B : Type 0} (f : A → List B) (xs : List A) → flat_map (λ part. part) (map f xs) ≡ flat_map f xs
-concat-map f [] = refl
-concat-map f (x ∷ xs) = ap (λ l. f x ++ l) (concat-map f xs)
+concat-map {B = B} f xs = flat_map-map (λ (part : List B). part) f xs
 
 -- the same, where each is made of an element and what is around it
 pub concat-map_at : {A B C : Type 0} (f : A → C → List B) (c : C) (xs : List A) → flat_map (λ part. part c) (map f xs) ≡ flat_map (λ x. f x c) xs
-concat-map_at f c [] = refl
-concat-map_at f c (x ∷ xs) = ap (λ l. f x c ++ l) (concat-map_at f c xs)
+concat-map_at {B = B} {C = C} f c xs = flat_map-map (λ (part : C → List B). part c) f xs
 
 -- A loop that goes on from element to element with what a walk over lists gives, for a walk that may stop anywhere.
 module _ {S A B : Type 0} (walk : S → List B → S) (joins : (s : S) (xs ys : List B) → walk s (xs ++ ys) ≡ walk (walk s xs) ys) (f : A → List B) (start : S) where

@@ -9,5 +9,4 @@ pub mod Pieces
 pub mod NamesIn
 pub mod KeysApart
 pub mod Clashes
-pub mod FirstLeast
 pub mod Accepting

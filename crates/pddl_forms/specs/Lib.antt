@@ -12,5 +12,4 @@ pub mod Requirements
 pub mod Forms
 pub mod Limits
 pub mod Keys
-pub mod Laws
 pub mod Accepted

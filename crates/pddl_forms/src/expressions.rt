@@ -1,8 +1,10 @@
 //! Linear expressions: products with one factor at most that is no constant, and quotients by constants.
 
-ghost use Rattle.std.specs.Prelude.{◌≡◌, ◌++◌, ◌+◌, ◌<◌, ◌^◌, ◌&&◌, not, if◌then◌else◌};
+ghost use Rattle.std.specs.Prelude.{◌≡◌, ◌++◌, ◌+◌, ◌<◌, ◌^◌, ◌&&◌, not, nat_le, length, if◌then◌else◌};
+ghost use Rattle.std.specs.List.{flat_map, filter, list_all};
+ghost use Rattle.pddl_terms.specs.declared.faults.Kind.TheVariants.{Nonlinear};
 ghost use Rattle.pddl_forms.specs.Offences.{least_with, unless};
-ghost use Rattle.pddl_forms.specs.Expressions.{is_constant, expression_offences, side_offences};
+ghost use Rattle.pddl_forms.specs.Expressions.{is_constant, is_changing, expression_offences, side_offences};
 
 use crate::functions::{Functions, is_static};
 use crate::offences::met;
@@ -43,85 +45,86 @@ fn counted(changing: usize, is_constant: bool) -> usize
     if is_constant { changing } else { changing + 1 }
 }
 
+fn judged(is_constant: bool, found: Option<Offence>) -> Judgement
+    ensures constant { result.is_constant ≡ is_constant }
+    ensures found { result.found ≡ found }
+{
+    Judgement { is_constant, found }
+}
+
+/// Whether an expression is a constant, and the least of what was found before and in it.
+#[cycle(judgements)]
 #[tactic(auto, using(crate::proofs::Judgements::judgements))]
 pub(crate) fn judge(functions: &Functions, tree: &ExprTree, found: Option<Offence>) -> Judgement
     ensures constant { result.is_constant ≡ is_constant functions.now tree.now }
     ensures found { result.found ≡ least_with found (expression_offences functions.now tree.now) }
 {
     match tree {
-        ExprTree::Number(_, _) => Judgement {
-            is_constant: true,
-            found,
-        },
-        ExprTree::Fluent(fluent) => Judgement {
-            is_constant: is_static(functions, fluent.name.bytes.as_slice()),
-            found,
-        },
-        ExprTree::Duration(_) => Judgement {
-            is_constant: false,
-            found,
-        },
-        ExprTree::Sum(_, parts) => {
-            let mut all = Judgement {
-                is_constant: true,
-                found,
-            };
-            for part in parts.as_slice() {
-                let next = judge(functions, part, all.found);
-                all = Judgement {
-                    is_constant: both(all.is_constant, next.is_constant),
-                    found: next.found,
-                };
-            }
-            all
+        ExprTree::Number(_, _) => judged(true, found),
+        ExprTree::Fluent(fluent) => {
+            judged(is_static(functions, fluent.name.bytes.as_slice()), found)
         }
-        ExprTree::Product(at, factors) => {
-            let mut found = found;
-            let mut changing: usize = 0;
-            for factor in factors.as_slice() {
-                let next = judge(functions, factor, found);
-                found = next.found;
-                changing = counted(changing, next.is_constant);
-            }
-            Judgement {
-                is_constant: changing == 0,
-                found: met_unless(found, changing <= 1, Kind::Nonlinear, *at),
-            }
-        }
+        ExprTree::Duration(_) => judged(false, found),
+        ExprTree::Sum(_, parts) => judge_sum(functions, parts.as_slice(), found),
+        ExprTree::Product(at, factors) => judge_product(functions, *at, factors.as_slice(), found),
         ExprTree::Negative(_, part) => judge(functions, part.get(), found),
         ExprTree::Difference(_, left, right) => {
             let first = judge(functions, left.get(), found);
             let second = judge(functions, right.get(), first.found);
-            Judgement {
-                is_constant: both(first.is_constant, second.is_constant),
-                found: second.found,
-            }
+            judged(both(first.is_constant, second.is_constant), second.found)
         }
         ExprTree::Quotient(at, left, right) => {
             let first = judge(functions, left.get(), found);
             let second = judge(functions, right.get(), first.found);
-            Judgement {
-                is_constant: both(first.is_constant, second.is_constant),
-                found: met_unless(second.found, second.is_constant, Kind::Nonlinear, *at),
-            }
+            let found = met_unless(second.found, second.is_constant, Kind::Nonlinear, *at);
+            judged(both(first.is_constant, second.is_constant), found)
         }
-        ExprTree::LeftOut(at) => Judgement {
-            is_constant: true,
-            found: met(found, Kind::LeftOut, *at),
-        },
-        ExprTree::TotalTime(_) => Judgement {
-            is_constant: false,
-            found,
-        },
-        ExprTree::Violated(_, _) => Judgement {
-            is_constant: false,
-            found,
-        },
-        ExprTree::TimeCost(_, _) => Judgement {
-            is_constant: false,
-            found,
-        },
+        ExprTree::LeftOut(at) => judged(true, met(found, Kind::LeftOut, *at)),
+        ExprTree::TotalTime(_) => judged(false, found),
+        ExprTree::Violated(_, _) => judged(false, found),
+        ExprTree::TimeCost(_, _) => judged(false, found),
     }
+}
+
+#[cycle(judgements)]
+#[tactic(auto, using(crate::proofs::Least::least_of))]
+fn judge_sum(functions: &Functions, parts: &[ExprTree], found: Option<Offence>) -> Judgement
+    ensures constant { result.is_constant ≡ list_all (is_constant functions.now) parts.now }
+    ensures found { result.found
+        ≡ least_with found (flat_map (expression_offences functions.now) parts.now) }
+{
+    let mut all = judged(true, found);
+    for part in parts {
+        let next = judge(functions, part, all.found);
+        all = judged(both(all.is_constant, next.is_constant), next.found);
+    }
+    all
+}
+
+#[cycle(judgements)]
+#[tactic(auto, using(crate::proofs::Least::least_of))]
+fn judge_product(
+    functions: &Functions,
+    at: u32,
+    factors: &[ExprTree],
+    found: Option<Offence>,
+) -> Judgement
+    ensures constant { result.is_constant ≡ list_all (is_constant functions.now) factors.now }
+    ensures found { result.found ≡ least_with found
+        (flat_map (expression_offences functions.now) factors.now
+        ++ unless (nat_le (length (filter (is_changing functions.now) factors.now)) 1) Nonlinear at) }
+{
+    let mut found = found;
+    let mut changing: usize = 0;
+    for factor in factors {
+        let next = judge(functions, factor, found);
+        found = next.found;
+        changing = counted(changing, next.is_constant);
+    }
+    judged(
+        changing == 0,
+        met_unless(found, changing <= 1, Kind::Nonlinear, at),
+    )
 }
 
 /// The least of what was found before an expression and in it.
