@@ -3,3 +3,7 @@ pub mod Timed
 pub mod Actions
 pub mod Domains
 pub mod Held
+pub mod Phases
+pub mod Readings
+pub mod Laws
+pub mod Accepted
