@@ -1,0 +1,5 @@
+pub mod Goals
+pub mod Metrics
+pub mod Entries
+pub mod TimeCosts
+pub mod Problems

@@ -1,0 +1,30 @@
+//! The reader of problems.
+
+ghost use Rattle.std.specs.Prelude.{◌<◌, ◌^◌, length, None};
+ghost use Rattle.pddl_terms.specs.Files.{ReadsFile};
+ghost use Rattle.pddl_problem.specs.Problems.{wrong_problem, problem_told};
+
+use crate::problems::problem_tree;
+use pddl_terms::shape::first_wrong;
+use pddl_terms::{Kind, Line, PddlFault, Problem, ProblemLine, Rest, tokens_of};
+use std::alloc::Global;
+
+/// Reads a problem as far as its shape says: the tree that the grammar derives, or the first fault of its tokens, or
+/// `Shape` at the first byte at which no accepted text can go on.
+pub fn read_shape(alloc: Global, text: &[u8]) -> Result<Problem, PddlFault>
+    requires { length text.now < 2 ^ 32 }
+    ensures { ReadsFile wrong_problem problem_told (λ _. None) text.now result }
+{
+    let forms = match tokens_of(alloc, text) {
+        Ok(forms) => forms,
+        Err(fault) => return Err(fault),
+    };
+    let line = Line::Problem(ProblemLine::File);
+    if let Some(place) = first_wrong(&forms, 0, Rest::One(line)) {
+        return Err(PddlFault::At(Kind::Shape, place));
+    }
+    match problem_tree(alloc, &forms) {
+        Ok(problem) => Ok(problem),
+        Err(_) => Err(PddlFault::Memory),
+    }
+}

@@ -1,0 +1,3 @@
+//! Problems that are accepted, and what the others are refused for.
+
+mod shapes;
