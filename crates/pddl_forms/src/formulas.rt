@@ -14,7 +14,7 @@ use pddl_terms::{ConForm, FactForm, Kind, Side, Trajectory};
 /// What a formula stands right in: a formula or constraint, a preference of a goal, or the `not` at a place which stands
 /// right in a preference.
 #[derive(Clone, Copy)]
-pub(crate) enum Around {
+pub enum Around {
     Formula,
     Preference,
     Negation(u32),

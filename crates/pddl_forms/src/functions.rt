@@ -12,7 +12,7 @@ use std::alloc::Global;
 
 /// The functions that a domain declares, and those that some effect of it changes.
 #[derive(Drop)]
-pub(crate) struct Functions {
+pub struct Functions {
     pub declared: Names,
     pub changed: Names,
 }

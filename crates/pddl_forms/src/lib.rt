@@ -19,6 +19,8 @@ mod timed_literals;
 mod typed_lists;
 
 pub use forms::{domain_form_offence, metric_form_offence, problem_form_offence};
+pub use formulas::Around;
+pub use functions::Functions;
 pub use laws::accepted_files_keep_to;
 pub use limits::{
     MOST_OBJECTS, MOST_PARAMETERS, MOST_PIECES, domain_limit_offence, problem_limit_offence,
