@@ -1,17 +1,21 @@
 //! Problems of PDDL, read from the bytes of a file.
 //!
-//! A text is a problem exactly where it has tokens and the printed grammar derives them. The tree is told by the text
-//! alone; a text that is no problem is refused at the first place at which no accepted text can go on.
+//! A text is a problem of a domain exactly where it has tokens, the printed grammar derives them, and nothing is wrong
+//! with the names, the types, the forms and the limits of the tree that the text tells. A text that is none is refused for
+//! the first of these that it lacks, at the least place of it.
 #![tactic(auto)]
 
 mod entries;
 mod goals;
+mod laws;
 mod metrics;
+mod phases;
 mod problems;
 mod read;
 mod time_costs;
 
-pub use read::read_shape;
+pub use laws::a_text_is_one_problem;
+pub use read::read_problem;
 
 #[cfg(test)]
 mod tests;

@@ -1,6 +1,6 @@
 //! Problems that are accepted, and the first place of the wrong shape of those that aren't.
 
-use crate::read_shape;
+use crate::read::read_shape;
 use pddl_terms::{Kind, PddlFault};
 use std::alloc::Global;
 
