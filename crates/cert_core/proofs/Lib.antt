@@ -1,3 +1,4 @@
+pub mod AddedSums
 pub mod PairLoops
 pub mod PartialSums
 pub mod Meaning

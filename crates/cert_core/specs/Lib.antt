@@ -6,3 +6,4 @@ pub mod Trees
 pub mod Laws
 pub mod LeafWalks
 pub mod Listed
+pub mod SumsSoFar

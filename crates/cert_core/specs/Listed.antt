@@ -1,4 +1,4 @@
--- Private: programs over one variable, as the tests have them.
+-- Private: programs over one or two variables, as the tests have them.
 use Rattle.std.specs.Prelude.{◌≡◌, ℕ, zero, suc, pos, negsuc, Option, Some, None, Bool, IsTrue, List, [], ◌∷◌, length, map, refl}
 use Rattle.std.proofs.Common.{ap, sym, arith}
 use Rattle.std.specs.List.{AllByRecursion}
@@ -6,6 +6,7 @@ use Rattle.rational.specs.Rational.{ℚ, whole, ◌≤ℚ◌}
 use Rattle.rational.proofs.Inequalities.{le_refl, le_from_eq}
 use Rattle.rational.proofs.Order.{whole_nonneg}
 use Rattle.rational.specs.Rows.{Row}
+use Rattle.exact_lin.specs.Forms.{LinearForm, coefficient}
 use Rattle.cert_core.specs.Programs.{Program, IsEven}
 use Rattle.cert_core.specs.Soft.{SoftProgram, decision_of, IsLawful}
 
@@ -55,3 +56,17 @@ priced-lawful has_base = record {
   last_way = λ made t d h n. refl;
   free_stays = λ made t x d h n s f. absurd f;
 }
+
+-- ---- rows over two variables, read off forms with the bounds as constants, and the cost x + y
+abbrev pub form_row : LinearForm → Row
+form_row f = record { factors = coefficient f.terms 0 ∷ coefficient f.terms 1 ∷ []; bound = f.constant }
+
+abbrev pub form_program : List LinearForm → Program
+form_program forms = record { rows = map form_row forms; costs = whole (pos 1) ∷ whole (pos 1) ∷ []; base = whole (pos 0) }
+
+each-form_even : (forms : List LinearForm) → AllByRecursion (λ (r : Row). length r.factors ≡ 2) (map form_row forms)
+each-form_even [] = tt
+each-form_even (f ∷ forms) = (refl, each-form_even forms)
+
+pub form_program-even : (forms : List LinearForm) → IsEven (form_program forms)
+form_program-even forms = record { even = each-form_even forms }

@@ -4,6 +4,7 @@ use Rattle.std.specs.List.{AllByRecursion}
 use Rattle.rational.specs.Rational.{ℚ, zeroℚ, ◌+ℚ◌, ◌-ℚ◌, ◌≤ℚ◌, ◌<ℚ◌}
 use Rattle.rational.specs.Lists.{dot, add_list, Nonneg}
 use Rattle.rational.specs.Rows.{Row, row_at, sum_rows, Meets}
+use Rattle.exact_lin.specs.Forms.{Terms, AscendFrom, Covers, coefficient}
 
 -- the rows `A x ≤ b`, the cost's factors c, one for each variable, and its constant
 pub record Program : Type 0 where
@@ -24,6 +25,12 @@ bound_of p r = (row_at p.rows r).bound
 
 abbrev pub cost_of : Program → ℕ → ℚ
 cost_of p v = slice_index_or p.costs v zeroℚ
+
+-- the terms tell row r: its variables ascend, no number is 0, and each entry is the coefficient of its variable
+pub record TellsRow (p : Program) (r : ℕ) (terms : Terms) : Type 0 where
+  pub ascends : AscendFrom 0 terms
+  pub within : Covers (length p.costs) terms
+  pub entries : (v : ℕ) → v < length p.costs → coefficient terms v ≡ entry_of p r v
 
 -- x solves the program: one number of at least 0 for each variable, and each row is met
 pub record Solves (p : Program) (x : List ℚ) : Type 0 where

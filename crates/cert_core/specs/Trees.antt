@@ -1,5 +1,5 @@
 -- Believed: trees of decisions, read as the list of their leaves, what they prove, and what their check asks.
-use Rattle.std.specs.Prelude.{◌↔◌, ℕ, ◌+◌, ◌-◌, ◌<◌, ◌≤◌, slice_index_or, Bool, true, false, ◌&&◌, nat_eq, nat_lt, nat_le, Option, Some, None, List, [], ◌∷◌, ◌++◌, length, map, sum, if◌then◌else◌}
+use Rattle.std.specs.Prelude.{ℕ, ◌+◌, ◌-◌, slice_index_or, Bool, true, false, ◌&&◌, nat_eq, nat_lt, nat_le, Option, Some, None, List, [], ◌∷◌, ◌++◌, length, map, sum, if◌then◌else◌}
 use Rattle.std.specs.List.{AllByRecursion}
 use Rattle.rational.specs.Rational.{ℚ}
 use Rattle.cert_core.specs.declared.program.CertFault.{CertFault}
@@ -10,7 +10,7 @@ use Rattle.cert_core.specs.declared.tree.TreeFault.{TreeFault}
 use Rattle.cert_core.specs.declared.tree.DualTree.{DualTree, fold-DualTree}
 use Rattle.cert_core.specs.declared.tree.DualTree.TheOpen.{DualTree-F}
 use Rattle.cert_core.specs.Soft.{SoftProgram, Decisions, ways_of, decision_of, decide, program_under}
-use Rattle.basics.specs.Duties.{Duty, AllMet, IsFirstUnmet}
+use Rattle.basics.specs.Duties.{Duty}
 use Rattle.cert_core.specs.Checks.{Proves, AreReckoned, duties}
 use Rattle.cert_core.specs.Faults.{multipliers_of}
 

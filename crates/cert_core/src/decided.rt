@@ -37,6 +37,10 @@ impl<'a, T: Id, R: Id, V: Id, S: Scalar, P: SoftRows<T, R, V, S>> Rows<R, V, S>
         self.soft.entry(self.made, r, v)
     }
 
+    fn row(&self, r: R) -> Option<&[(V, S)]> {
+        self.soft.row(self.made, r)
+    }
+
     fn bound(&self, r: R) -> S {
         self.soft.bound(self.made, r)
     }

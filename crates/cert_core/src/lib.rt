@@ -3,6 +3,7 @@
 
 mod check;
 mod claim;
+mod column_sums;
 mod decided;
 mod laws;
 mod pairs;
@@ -12,14 +13,14 @@ mod sums;
 mod tree;
 mod tree_check;
 
-pub use check::{check_dual, check_farkas};
+pub use check::{check_dual, check_dual_in, check_farkas, check_farkas_in};
 pub use decided::{Decided, under};
 pub use laws::{tree_fails_at_first_leaf, tree_passes_with_its_leaves};
 pub use pairs::{DualRow, FarkasRow};
-pub use program::{CertFault, Rows};
+pub use program::{CertFault, Rows, are_within};
 pub use soft::{SoftRows, Way};
 pub use tree::{DualTree, TreeFault};
-pub use tree_check::{check_leaf, check_leaves, check_tree};
+pub use tree_check::{check_leaf, check_leaves, check_leaves_in, check_tree};
 
 #[cfg(test)]
 mod tests;

@@ -1,9 +1,10 @@
 //! Linear programs with terms to decide.
 
-ghost use Rattle.std.specs.Prelude.{◌≡◌, ◌<◌, ◌↔◌, length, map, IsTrue};
+ghost use Rattle.std.specs.Prelude.{◌≡◌, ◌<◌, ◌↔◌, length, map, IsTrue, IfSome};
 ghost use Rattle.std.specs.Result.{MatchResult};
 ghost use Rattle.exact_lin.specs.Reckoning.{Reckons};
-ghost use Rattle.cert_core.specs.Programs.{bound_of, entry_of};
+ghost use Rattle.exact_lin.specs.Forms.{shown};
+ghost use Rattle.cert_core.specs.Programs.{TellsRow, bound_of, entry_of};
 ghost use Rattle.cert_core.specs.Soft.{SoftProgram, AreDecisions, IsLawful, factor_of, program_under, ways_of};
 
 use exact_lin::{Id, Scalar, Wide};
@@ -53,6 +54,16 @@ pub trait SoftRows<T: Id, R: Id, V: Id, S: Scalar> {
         requires variable { V.number_of v < length (soft self.now).costs }
         ensures { S.value result
             ≡ entry_of (program_under (soft self.now) made.now) (R.number_of r) (V.number_of v) };
+
+    /// The entries of a row that aren't 0, as [`crate::Rows::row`] tells them.
+    fn row(&self, _made: &[Option<Way>], _r: R) -> Option<&[(V, S)]>
+        requires made { AreDecisions (soft self.now) _made.now }
+        requires row { R.number_of _r < length (program_under (soft self.now) _made.now).rows }
+        ensures { IfSome result (λ terms. TellsRow (program_under (soft self.now) _made.now)
+            (R.number_of _r) (shown V.number_of S.value terms.now)) }
+    {
+        None
+    }
 
     /// The bound of a row.
     fn bound(&self, made: &[Option<Way>], r: R) -> S

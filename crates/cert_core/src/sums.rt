@@ -4,7 +4,7 @@ ghost use Rattle.std.specs.Prelude.{◌≡◌, ◌<◌, length, OnOk};
 ghost use Rattle.std.specs.List.{AllByRecursion};
 ghost use Rattle.exact_lin.specs.Reckoning.{Reckons};
 ghost use Rattle.exact_lin.specs.Reckonings.{AreDefined, product_sums, sum_of_products};
-ghost use Rattle.cert_core.specs.Checks.{claim_of, column_terms, constant_start, constant_terms, signed_bound};
+ghost use Rattle.cert_core.specs.Checks.{claim_of, column_start, column_terms, constant_start, constant_terms, signed_bound};
 ghost use Rattle.cert_core.specs.Faults.{multipliers_of};
 
 use crate::claim::Claim;
@@ -34,6 +34,22 @@ pub(crate) fn column_sum<R: Id, V: Id, S: Scalar, P: Rows<R, V, S>>(
         }
     }
     Ok(sum)
+}
+
+// Where a column's sum begins.
+pub(crate) fn column_start_of<R: Id, V: Id, S: Scalar, P: Rows<R, V, S>>(
+    program: &P,
+    claim: Claim<S>,
+    v: V,
+) -> S
+    requires { V.number_of v < length (P.program program.now).costs }
+    ensures { S.value result
+        ≡ column_start (P.program program.now) (claim_of S.value claim) (V.number_of v) }
+{
+    match claim {
+        Claim::Empty => S::of_int(0),
+        Claim::AtLeast(_) => program.cost(v),
+    }
 }
 
 // Where the constant's sum begins: at 0 for a Farkas row, at the base for a dual row.

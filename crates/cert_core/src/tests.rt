@@ -3,10 +3,10 @@
 ghost use Rattle.std.specs.Prelude.{◌≡◌, ◌<◌, ◌^◌, length};
 
 use crate::{
-    CertFault, DualRow, DualTree, FarkasRow, Rows, SoftRows, TreeFault, Way, check_dual,
-    check_farkas, check_leaf, check_leaves, check_tree,
+    CertFault, DualRow, DualTree, FarkasRow, Rows, SoftRows, TreeFault, Way, are_within,
+    check_dual, check_dual_in, check_farkas, check_leaf, check_leaves, check_tree,
 };
-use exact_lin::{Fraction, Id, Narrow, RowId, Scalar, TermId, VarId, Wide};
+use exact_lin::{Form, Fraction, Id, Narrow, RowId, Scalar, TermId, VarId, Wide};
 use sqlite_items::Items;
 use std::alloc::Global;
 use std::process::Abort;
@@ -51,6 +51,54 @@ impl<R: Id, V: Id, S: Scalar> Rows<R, V, S> for Listed<S> {
     }
 
     ghost even = { λ p. listed-even S.value p.rows.items p.cost p.base };
+}
+
+// A program over two variables: each row is a form, with its bound as the constant, and the cost is x + y.
+#[derive(Drop)]
+struct Forms {
+    rows: Vec<Form<VarId, Fraction>>,
+    ghost short: { length rows.items < 2 ^ 32 },
+}
+
+impl Rows<RowId, VarId, Fraction> for Forms {
+    ghost use Rattle.cert_core.specs.Listed.{form_program, form_program-even};
+
+    ghost program = { λ p. form_program p.rows.items };
+
+    fn row_count(&self) -> u32 {
+        self.rows.len() as u32
+    }
+
+    fn var_count(&self) -> u32 {
+        2
+    }
+
+    fn entry(&self, r: RowId, v: VarId) -> Fraction {
+        self.rows[r.number() as usize].coefficient(v)
+    }
+
+    fn row(&self, r: RowId) -> Option<&[(VarId, Fraction)]> {
+        let terms = self.rows[r.number() as usize].terms();
+        if are_within(terms, 2) {
+            Some(terms)
+        } else {
+            None
+        }
+    }
+
+    fn bound(&self, r: RowId) -> Fraction {
+        self.rows[r.number() as usize].constant()
+    }
+
+    fn cost(&self, _v: VarId) -> Fraction {
+        Fraction::of_int(1)
+    }
+
+    fn base(&self) -> Fraction {
+        Fraction::of_int(0)
+    }
+
+    ghost even = { λ p. form_program-even p.rows.items };
 }
 
 // 2 <= x <= 5 at the cost x, with one term of two ways that costs 3 more where it is paid for; where `has_base` is
@@ -176,6 +224,56 @@ fn certificates_of_one_variable<S: Scalar>(rt: &impl Abort, alloc: Global) -> Re
     for (numbers, cost, answer) in dual {
         let row = DualRow::of_pairs(alloc, &pairs::<S>(alloc, numbers)?)?;
         assert_eq!(rt; check_dual(&costed, &row, S::of_int(cost)), answer);
+    }
+    Ok(())
+}
+
+fn make_form(
+    alloc: Global,
+    bound: i32,
+    terms: &[(u32, i32)],
+) -> Result<Form<VarId, Fraction>, Fail> {
+    let mut form = Form::zero(alloc);
+    form.add_constant(Fraction::of_int(bound)).ok();
+    for term in terms {
+        form.add_term(VarId::of(term.0), Fraction::of_int(term.1))
+            .ok();
+    }
+    Ok(form)
+}
+
+// The rows x + y <= 5, -x - y <= -2 and, read entry by entry, y - z <= 1, of which z is no variable.
+fn make_forms(rt: &impl Abort, alloc: Global) -> Result<Forms, Fail> {
+    let mut rows = Vec::new(alloc);
+    rows.push(make_form(alloc, 5, &[(0, 1), (1, 1)])?)?;
+    rows.push(make_form(alloc, -2, &[(0, -1), (1, -1)])?)?;
+    rows.push(make_form(alloc, 1, &[(1, 1), (2, -1)])?)?;
+    assert!(rt; rows.len() < 100);
+    Ok(Forms { rows })
+}
+
+// With room for the sums of both columns and without, the answers are the same.
+#[test]
+fn sums_of_all_columns_at_once(rt: HostRuntime) -> Result<(), Fail> {
+    let program = make_forms(&rt, rt.alloc())?;
+    let cases: [(&[(u32, i32)], i32, Answer); 6] = [
+        (&[(1, 1)], 2, Ok(())),
+        (&[(1, 1)], 3, Err(CertFault::Bound)),
+        (&[(1, 2)], 2, Err(CertFault::Column(VarId::of(0)))),
+        (&[(0, 1), (1, 2), (2, 1)], -2, Ok(())),
+        (
+            &[(0, 1), (1, 2), (2, -1)],
+            -2,
+            Err(CertFault::Negative(RowId::of(2))),
+        ),
+        (&[(2, 1), (1, 1)], 1, Err(CertFault::Range(1))),
+    ];
+    for (numbers, cost, answer) in cases {
+        let row = DualRow::of_pairs(rt.alloc(), &pairs(rt.alloc(), numbers)?)?;
+        let cost = Fraction::of_int(cost);
+        let mut sums = [None, None, Some(Fraction::of_int(7))];
+        assert_eq!(rt; check_dual_in(&program, &row, cost, &mut sums), answer);
+        assert_eq!(rt; check_dual(&program, &row, cost), answer);
     }
     Ok(())
 }

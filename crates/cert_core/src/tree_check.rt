@@ -68,7 +68,31 @@ pub fn check_leaves<T: Id, R: Id, V: Id, S: Scalar, P: SoftRows<T, R, V, S>>(
         (top made.old))) }
     ensures made { made.new ≡ made.old }
 {
-    match check_part(soft, tree, Asked { from, to, cost }, made, 0) {
+    let mut no_sums = [];
+    check_leaves_in(soft, tree, from, to, cost, made, &mut no_sums)
+}
+
+/// What [`check_leaves`] answers, with room for all sums of a leaf as [`crate::check_farkas_in`] has it.
+pub fn check_leaves_in<T: Id, R: Id, V: Id, S: Scalar, P: SoftRows<T, R, V, S>>(
+    soft: &P,
+    tree: &DualTree<T, R, S>,
+    from: u32,
+    to: u32,
+    cost: S,
+    made: &mut [Option<Way>],
+    sums: &mut [Option<S>],
+) -> Result<(), TreeFault<R, V>>
+    requires undecided { AreUndecided (P.soft soft.now) made.old }
+    requires countable { leaf_count tree.now < 2 ^ 32 }
+    requires from_one { 1 ≤ from }
+    requires ordered { from ≤ to }
+    ensures judged { Judges result (tree_fault_of R.number_of V.number_of)
+        (between_duties S.limit (P.soft soft.now) from to 1
+        (leaves_of T.number_of R.number_of S.value (P.soft soft.now) (S.value cost) tree.now
+        (top made.old))) }
+    ensures made { made.new ≡ made.old }
+{
+    match check_part(soft, tree, Asked { from, to, cost }, made, sums, 0) {
         Ok(_) => Ok(()),
         Err(fault) => Err(fault),
     }
@@ -113,6 +137,7 @@ fn check_here<T: Id, R: Id, V: Id, S: Scalar, P: SoftRows<T, R, V, S>>(
     made: &[Option<Way>],
     pairs: &[(R, S)],
     claim: Claim<S>,
+    sums: &mut [Option<S>],
 ) -> Result<(), CertFault<R, V>>
     requires { AreDecisions (P.soft soft.now) made.now }
     ensures { Judges result (fault_of R.number_of V.number_of)
@@ -124,7 +149,7 @@ fn check_here<T: Id, R: Id, V: Id, S: Scalar, P: SoftRows<T, R, V, S>>(
         })) }
 {
     match under(soft, made) {
-        Ok(program) => check(&program, pairs, claim),
+        Ok(program) => check(&program, pairs, claim, sums),
         Err(_) => Err(CertFault::Wide),
     }
 }
@@ -156,6 +181,7 @@ fn check_next<T: Id, R: Id, V: Id, S: Scalar, P: SoftRows<T, R, V, S>>(
     pairs: &[(R, S)],
     claim: Claim<S>,
     asked: Asked<S>,
+    sums: &mut [Option<S>],
     done: u32,
 ) -> Result<u32, TreeFault<R, V>>
     requires decisions { AreDecisions (P.soft soft.now) made.now }
@@ -171,7 +197,7 @@ fn check_next<T: Id, R: Id, V: Id, S: Scalar, P: SoftRows<T, R, V, S>>(
     if done + 1 < asked.from {
         return Ok(done + 1);
     }
-    match check_here(soft, made, pairs, claim) {
+    match check_here(soft, made, pairs, claim, sums) {
         Ok(()) => Ok(done + 1),
         Err(fault) => Err(TreeFault {
             leaf: done + 1,
@@ -212,6 +238,7 @@ fn check_part<T: Id, R: Id, V: Id, S: Scalar, P: SoftRows<T, R, V, S>>(
     tree: &DualTree<T, R, S>,
     asked: Asked<S>,
     made: &mut [Option<Way>],
+    sums: &mut [Option<S>],
     done: u32,
 ) -> Result<u32, TreeFault<R, V>>
     requires decisions { AreDecisions (P.soft soft.now) made.old }
@@ -225,7 +252,9 @@ fn check_part<T: Id, R: Id, V: Id, S: Scalar, P: SoftRows<T, R, V, S>>(
         (top made.old)) }
 {
     match tree {
-        DualTree::None(row) => { check_next(soft, made, row.pairs(), Claim::Empty, asked, done) }
+        DualTree::None(row) => {
+            check_next(soft, made, row.pairs(), Claim::Empty, asked, sums, done)
+        }
         DualTree::AtLeast(row) => {
             check_next(
                 soft,
@@ -233,12 +262,13 @@ fn check_part<T: Id, R: Id, V: Id, S: Scalar, P: SoftRows<T, R, V, S>>(
                 row.pairs(),
                 Claim::AtLeast(asked.cost),
                 asked,
+                sums,
                 done,
             )
         }
         DualTree::Split(t, children) => {
             if fits(soft, made, *t, children.len()) {
-                check_children(soft, children.as_slice(), asked, made, *t, done)
+                check_children(soft, children.as_slice(), asked, made, sums, *t, done)
             } else {
                 refuse(tree, *t, asked.from, done)
             }
@@ -253,6 +283,7 @@ fn check_children<T: Id, R: Id, V: Id, S: Scalar, P: SoftRows<T, R, V, S>>(
     children: &[DualTree<T, R, S>],
     asked: Asked<S>,
     made: &mut [Option<Way>],
+    sums: &mut [Option<S>],
     t: T,
     done: u32,
 ) -> Result<u32, TreeFault<R, V>>
@@ -272,7 +303,7 @@ fn check_children<T: Id, R: Id, V: Id, S: Scalar, P: SoftRows<T, R, V, S>>(
     let mut done = done;
     let mut way = 0;
     for child in children {
-        match check_child(soft, child, asked, made, t, Way(way), done) {
+        match check_child(soft, child, asked, made, sums, t, Way(way), done) {
             Ok(end) => done = end,
             Err(fault) => return Err(fault),
         }
@@ -291,6 +322,7 @@ fn check_child<T: Id, R: Id, V: Id, S: Scalar, P: SoftRows<T, R, V, S>>(
     child: &DualTree<T, R, S>,
     asked: Asked<S>,
     made: &mut [Option<Way>],
+    sums: &mut [Option<S>],
     t: T,
     way: Way,
     done: u32,
@@ -310,7 +342,7 @@ fn check_child<T: Id, R: Id, V: Id, S: Scalar, P: SoftRows<T, R, V, S>>(
 {
     let number = t.number() as usize;
     made[number] = Some(way);
-    let answer = check_part(soft, child, asked, made, done);
+    let answer = check_part(soft, child, asked, made, sums, done);
     made[number] = None;
     answer
 }

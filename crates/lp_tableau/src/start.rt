@@ -19,7 +19,7 @@ fn numbers(alloc: Global, start: usize, count: usize) -> Result<Vec<usize>, NoMe
     requires { start + count < 2 ^ 64 }
     ensures { IfOk result (λ v. v.items ≡ range_with_len start count) }
 {
-    let mut numbers = Vec::new(alloc);
+    let mut numbers = Vec::with_capacity(alloc, count)?;
     for k in 0..count {
         numbers.push(start + k)?;
     }
@@ -46,8 +46,9 @@ fn slack<R: Id, V: Id, S: Scalar, P: Rows<R, V, S>>(
         ≡ slack_row (row_at (P.program program.now).rows (R.number_of r))) }
     ensures fits { IfOk result (λ v. RowFits S.limit (map S.value v.items)) }
 {
-    let mut row = Vec::new(alloc);
-    for v in 0..program.var_count() {
+    let variables = program.var_count();
+    let mut row = Vec::with_capacity(alloc, variables as usize + 1)?;
+    for v in 0..variables {
         row.push(kept(program.entry(r, V::of(v)).neg()))?;
     }
     row.push(kept(program.bound(r)))?;
@@ -63,8 +64,9 @@ fn slacks<R: Id, V: Id, S: Scalar, P: Rows<R, V, S>>(
         ≡ map slack_row (P.program program.now).rows) }
     ensures fits { IfOk result (λ v. RowsFit S.limit (shown_rows S.value v.items)) }
 {
-    let mut rows = Vec::new(alloc);
-    for r in 0..program.row_count() {
+    let count = program.row_count();
+    let mut rows = Vec::with_capacity(alloc, count as usize)?;
+    for r in 0..count {
         rows.push(slack(alloc, program, R::of(r))?)?;
     }
     Ok(rows)
@@ -78,8 +80,9 @@ fn costs<R: Id, V: Id, S: Scalar, P: Rows<R, V, S>>(
     ensures { IfOk result (λ v. map S.value v.items
         ≡ (P.program program.now).costs ++ (P.program program.now).base ∷ []) }
 {
-    let mut row = Vec::new(alloc);
-    for v in 0..program.var_count() {
+    let variables = program.var_count();
+    let mut row = Vec::with_capacity(alloc, variables as usize + 1)?;
+    for v in 0..variables {
         row.push(program.cost(V::of(v)))?;
     }
     row.push(program.base())?;
@@ -113,7 +116,7 @@ fn spare_rows<S: Scalar>(alloc: Global, row: &[S], count: usize) -> Result<Vec<V
     ensures count { IfOk result (λ v. length v.items ≡ count) }
     ensures widths { IfOk result (λ v. HaveWidth (length row.now) v.items) }
 {
-    let mut spare = Vec::new(alloc);
+    let mut spare = Vec::with_capacity(alloc, count)?;
     for _k in 0..count {
         spare.push(Vec::from_slice(alloc, row)?)?;
     }

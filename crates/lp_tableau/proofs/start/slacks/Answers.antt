@@ -10,5 +10,5 @@ pub loop-r-preserved : goal.loop-r-preserved
 loop-r-preserved g c = (
   RowsFit-push g.S.Scalar.value g.S.Scalar.limit c.loop-r.rows.items _ _ c.in_ok-push.ensures.items c.loop-r.invariant.0 c.in_ok-slack.ensures.fits,
   ap (shown_rows g.S.Scalar.value) c.in_ok-push.ensures.items ∙ slacks-next g.S.Scalar.value (g.P.Rows.program c.args.program.now) c.loop-r.rows.items _ c.loop-r.r
-      (omega (arith, c.row_count-r-end.ensures)) c.loop-r.invariant.1 (c.in_ok-slack.ensures.row ∙ ap (λ n. slack_row (row_at (g.P.Rows.program c.args.program.now).rows n)) c.of.ensures),
+      (omega (arith, c.row_count-count.ensures)) c.loop-r.invariant.1 (c.in_ok-slack.ensures.row ∙ ap (λ n. slack_row (row_at (g.P.Rows.program c.args.program.now).rows n)) c.of.ensures),
 )

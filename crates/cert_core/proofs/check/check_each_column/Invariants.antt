@@ -2,7 +2,7 @@ use Rattle.std.proofs.Common.{◌-◌, length}
 use Rattle.cert_core.specs.Checks.{claim_of, columns_duties}
 use Rattle.cert_core.specs.Faults.{multipliers_of}
 use Rattle.basics.proofs.Duties.{ComesDownTo}
-use Rattle.cert_core.proofs.check.check_columns.Given as goal
+use Rattle.cert_core.proofs.check.check_each_column.Given as goal
 
 abbrev pub invariant-loop-number : goal.invariant-loop-number
 invariant-loop-number g l = ComesDownTo

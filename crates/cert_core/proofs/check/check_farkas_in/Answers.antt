@@ -3,7 +3,7 @@ use Rattle.cert_core.specs.declared.claim.Claim.TheVariants.{Empty}
 use Rattle.cert_core.specs.Faults.{multipliers_of, fault_of}
 use Rattle.cert_core.proofs.Exactness.{Judges-exact, Judges-proves, OnOk-map}
 use Rattle.cert_core.proofs.Meaning.{ProvesEmpty-no_solution}
-use Rattle.cert_core.proofs.check.check_farkas.Goals as goal
+use Rattle.cert_core.proofs.check.check_farkas_in.Goals as goal
 
 pub returns-clause-ok : goal.returns-clause-ok
 returns-clause-ok g c = rw (sym c.pairs.ensures) (Judges-exact g.S.Scalar.limit (g.P.Rows.program c.args.program.now) Empty _ c.check.result (fault_of g.R.Id.number_of g.V.Id.number_of) (g.met.P.Rows.even c.args.program.now) c.check.ensures)
