@@ -1,0 +1,8 @@
+pub mod Empties
+pub mod Variables
+pub mod Places
+pub mod OffenceWalks
+pub mod Atoms
+pub mod Trees
+pub mod Actions
+pub mod Files

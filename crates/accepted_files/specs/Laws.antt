@@ -1,0 +1,21 @@
+-- Believed: what is claimed of domains and problems in which no phase finds an offence.
+use Rattle.std.specs.Prelude.{IsTrue}
+use Rattle.std.specs.List.{flat_map, list_all}
+use Rattle.pddl_terms.specs.declared.files.Domain.{Domain}
+use Rattle.pddl_terms.specs.declared.files.Problem.{Problem}
+use Rattle.ground_world.specs.FirstState.{given_value, world}
+use Rattle.grounder.specs.Instances.{instances_of}
+use Rattle.grounder.specs.Accepted.{is_binding, instance_atoms}
+use Rattle.grounder.specs.Task.{mentioned_atoms, timings}
+use Rattle.accepted_files.specs.Clean.{IsClean, TypesAreNamed}
+
+-- Every ground atom is a binding of its predicate, and every fluent with a value of its function: those of each binding of
+-- an action, those that goal and constraints mention, those of `:init`.
+pub record AtomsAreBindings (d : Domain) (p : Problem) : Type 0 where
+  pub bound : IsTrue (list_all (λ a. list_all (λ i. list_all (is_binding (world d p) d.predicates) (instance_atoms (world d p) i)) (instances_of (world d p) a)) d.actions)
+  pub mentioned : IsTrue (list_all (is_binding (world d p) d.predicates) (mentioned_atoms (world d p) d p))
+  pub valued : IsTrue (list_all (λ e. is_binding (world d p) d.functions e.0) (flat_map (given_value (world d p)) p.init))
+  pub timed : IsTrue (list_all (λ l. is_binding (world d p) d.predicates l.atom) (timings (world d p) p.init))
+
+abbrev pub CleanAtomsAreBindings : Type 0
+CleanAtomsAreBindings = (d : Domain) (p : Problem) → IsClean d p → TypesAreNamed d → AtomsAreBindings d p
