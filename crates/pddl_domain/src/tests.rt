@@ -1,3 +1,5 @@
 //! Domains that are accepted, and what the others are refused for.
 
+mod kinds;
 mod shapes;
+mod tank;
