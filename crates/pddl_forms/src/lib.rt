@@ -25,3 +25,6 @@ pub use laws::accepted_files_keep_to;
 pub use limits::{
     MOST_OBJECTS, MOST_PARAMETERS, MOST_PIECES, domain_limit_offence, problem_limit_offence,
 };
+
+#[cfg(test)]
+mod tests;
