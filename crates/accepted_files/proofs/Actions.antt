@@ -2,7 +2,7 @@
 use Rattle.std.proofs.Common.{◌≡◌, refl, sym, subst, ◌∙◌, ℕ, true, List, [], ◌∷◌, ◌++◌, map, Some, None}
 use Rattle.std.specs.List.{AllByRecursion as Each, flat_map, list_all}
 use Rattle.std.specs.Option.{option_map_or}
-use Rattle.basics.proofs.Lists.{all_in, each_append}
+use Rattle.basics.proofs.Lists.{all_in, each_append, each_first, nothing_left, nothing_right, nothing_each}
 use Rattle.pddl_terms.specs.declared.files.ActionBody.{ActionBody}
 use Rattle.pddl_terms.specs.declared.files.ActionBody.TheVariants.{Instant, Durative}
 use Rattle.pddl_terms.specs.declared.files.ActionDef.{ActionDef}
@@ -51,16 +51,11 @@ use Rattle.grounder.specs.Terms.{part_atoms}
 use Rattle.grounder.proofs.Each.{each_weaker, each_map, map_each, each_flat_map, each_everywhere}
 use Rattle.grounder.proofs.Inductions.{each_timed_condition}
 use Rattle.accepted_files.specs.Clean.{TypesAreNamed}
-use Rattle.accepted_files.proofs.Empties.{empty_left, empty_right, empty_each}
 use Rattle.accepted_files.proofs.OffenceWalks as offence
 use Rattle.accepted_files.proofs.Atoms.{Knows, binds-nothing, bound-inside, atom-binds}
 use Rattle.accepted_files.proofs.Trees.{each_part, Scoped, Bound, Bounded, condition-bound}
 
 -- ---- what holds of each effect where it holds of its parts
-
-each_first : {X : Type 0} (P : X → Type 0) (es : List ((t : X) × P t)) → Each P (map (λ e. e.0) es)
-each_first P [] = tt
-each_first P (e ∷ es) = (e.1, each_first P es)
 
 module _ (P : EffTree → Type 0)
     (of_Empty : (a : ℕ) → P (eff.Empty a))
@@ -126,9 +121,9 @@ module _ (d : Domain) (p : Problem) (named : TypesAreNamed d) (w : Tables) (know
       (each_flat_map (λ x. Each (Bound d p named w knows fs) (part_atoms x.part)) (timed_condition_parts (world d p) env) cs
       (each_part (names.timed_condition_offences Names w scope) (names.timed_condition_offences Types w scope) (conditions.timed_condition_offences fs) (λ c. StagedParts (timed_condition_parts (world d p) env c)) cs
       (each_weaker TimedBound (λ c. names.timed_condition_offences Names w scope c ≡ [] → names.timed_condition_offences Types w scope c ≡ [] → conditions.timed_condition_offences fs c ≡ [] → StagedParts (timed_condition_parts (world d p) env c)) (λ c k. k env scope b) cs h)
-      (empty_each (names.timed_condition_offences Names w scope) cs (sym (offence.timed_condition-And Names w scope a cs) ∙ n))
-      (empty_each (names.timed_condition_offences Types w scope) cs (sym (offence.timed_condition-And Types w scope a cs) ∙ t))
-      (empty_each (conditions.timed_condition_offences fs) cs (sym (condition_form.timed_condition_offences-and fs a cs) ∙ f)))))
+      (nothing_each (names.timed_condition_offences Names w scope) cs (sym (offence.timed_condition-And Names w scope a cs) ∙ n))
+      (nothing_each (names.timed_condition_offences Types w scope) cs (sym (offence.timed_condition-And Types w scope a cs) ∙ t))
+      (nothing_each (conditions.timed_condition_offences fs) cs (sym (condition_form.timed_condition_offences-and fs a cs) ∙ f)))))
       (λ a c env scope b n t f. subst StagedParts (sym (world_walk.timed_condition_parts-AtStart (world d p) env a c))
       (at_stage AtStart env scope c b (sym (offence.timed_condition-AtStart Names w scope a c) ∙ n) (sym (offence.timed_condition-AtStart Types w scope a c) ∙ t) (sym (condition_form.timed_condition_offences-atstart fs a c) ∙ f)))
       (λ a c env scope b n t f. subst StagedParts (sym (world_walk.timed_condition_parts-OverAll (world d p) env a c))
@@ -163,8 +158,8 @@ module _ (d : Domain) (p : Problem) (named : TypesAreNamed d) (w : Tables) (know
       (each_flat_map (λ c. Each (Bound d p named w knows fs) (changed_atoms (world d p) env c)) effect_parts es
       (each_part (names.effect_offences Names w scope) (names.effect_offences Types w scope) none (λ e. Changed env (effect_parts e)) es
       (each_weaker EffectBound (λ e. names.effect_offences Names w scope e ≡ [] → names.effect_offences Types w scope e ≡ [] → none e ≡ [] → Changed env (effect_parts e)) (λ e k n' t' o. k env scope b n' t') es h)
-      (empty_each (names.effect_offences Names w scope) es (sym (offence.effect-And Names w scope a es) ∙ n))
-      (empty_each (names.effect_offences Types w scope) es (sym (offence.effect-And Types w scope a es) ∙ t))
+      (nothing_each (names.effect_offences Names w scope) es (sym (offence.effect-And Names w scope a es) ∙ n))
+      (nothing_each (names.effect_offences Types w scope) es (sym (offence.effect-And Types w scope a es) ∙ t))
       (each_everywhere (λ e. none e ≡ []) (λ e. refl) es))))
       (λ a env scope b n t. subst (Changed env) (sym (world_walk.effect_parts-Add a))
       ((atom-binds d p named w knows env scope b a (sym (offence.effect-Add Names w scope a) ∙ n) (sym (offence.effect-Add Types w scope a) ∙ t), tt), tt))
@@ -194,8 +189,8 @@ module _ (d : Domain) (p : Problem) (named : TypesAreNamed d) (w : Tables) (know
       (each_flat_map (λ c. Each (Bound d p named w knows fs) (changed_atoms (world d p) env c.part)) timed_effect_parts es
       (each_part (names.timed_effect_offences Names w scope) (names.timed_effect_offences Types w scope) none (λ e. StagedChanges env (timed_effect_parts e)) es
       (each_weaker TimedEffectBound (λ e. names.timed_effect_offences Names w scope e ≡ [] → names.timed_effect_offences Types w scope e ≡ [] → none e ≡ [] → StagedChanges env (timed_effect_parts e)) (λ e k n' t' o. k env scope b n' t') es h)
-      (empty_each (names.timed_effect_offences Names w scope) es (sym (offence.timed_effect-And Names w scope a es) ∙ n))
-      (empty_each (names.timed_effect_offences Types w scope) es (sym (offence.timed_effect-And Types w scope a es) ∙ t))
+      (nothing_each (names.timed_effect_offences Names w scope) es (sym (offence.timed_effect-And Names w scope a es) ∙ n))
+      (nothing_each (names.timed_effect_offences Types w scope) es (sym (offence.timed_effect-And Types w scope a es) ∙ t))
       (each_everywhere (λ e. none e ≡ []) (λ e. refl) es))))
       (λ a e env scope b n t. subst (StagedChanges env) (sym (world_walk.timed_effect_parts-AtStart a e))
       (changed_at AtStart env scope e b (sym (offence.timed_effect-AtStart Names w scope a e) ∙ n) (sym (offence.timed_effect-AtStart Types w scope a e) ∙ t)))
@@ -213,25 +208,25 @@ module _ (d : Domain) (p : Problem) (named : TypesAreNamed d) (w : Tables) (know
       → forms.body_offences fs body ≡ [] → StagedParts (body_conditions (world d p) env body)
   body_conditions-bound env scope (Instant None e) b n t f = tt
   body_conditions-bound env scope (Instant (Some c) e) b n t f = at_stage AtStart env scope c b
-      (empty_left (names.condition_offences Names w scope c) (option_map_or (names.effect_offences Names w scope) e []) n)
-      (empty_left (names.condition_offences Types w scope c) (option_map_or (names.effect_offences Types w scope) e []) t)
-      (empty_left (conditions.condition_offences fs c) (forms.some_offences (effects.effect_offences fs) e) f)
+      (nothing_left (names.condition_offences Names w scope c) (option_map_or (names.effect_offences Names w scope) e []) n)
+      (nothing_left (names.condition_offences Types w scope c) (option_map_or (names.effect_offences Types w scope) e []) t)
+      (nothing_left (conditions.condition_offences fs c) (forms.some_offences (effects.effect_offences fs) e) f)
   body_conditions-bound env scope (Durative dur None e) b n t f = tt
   body_conditions-bound env scope (Durative dur (Some c) e) b n t f = timed-bound c env scope b
-      (empty_right (names.duration_offences Names w scope dur) (names.timed_condition_offences Names w scope c) (empty_left (names.duration_offences Names w scope dur ++ names.timed_condition_offences Names w scope c) (option_map_or (names.timed_effect_offences Names w scope) e []) n))
-      (empty_right (names.duration_offences Types w scope dur) (names.timed_condition_offences Types w scope c) (empty_left (names.duration_offences Types w scope dur ++ names.timed_condition_offences Types w scope c) (option_map_or (names.timed_effect_offences Types w scope) e []) t))
-      (empty_right (conditions.duration_offences fs dur) (conditions.timed_condition_offences fs c) (empty_left (conditions.duration_offences fs dur ++ conditions.timed_condition_offences fs c) (forms.some_offences (effects.timed_effect_offences fs) e) f))
+      (nothing_right (names.duration_offences Names w scope dur) (names.timed_condition_offences Names w scope c) (nothing_left (names.duration_offences Names w scope dur ++ names.timed_condition_offences Names w scope c) (option_map_or (names.timed_effect_offences Names w scope) e []) n))
+      (nothing_right (names.duration_offences Types w scope dur) (names.timed_condition_offences Types w scope c) (nothing_left (names.duration_offences Types w scope dur ++ names.timed_condition_offences Types w scope c) (option_map_or (names.timed_effect_offences Types w scope) e []) t))
+      (nothing_right (conditions.duration_offences fs dur) (conditions.timed_condition_offences fs c) (nothing_left (conditions.duration_offences fs dur ++ conditions.timed_condition_offences fs c) (forms.some_offences (effects.timed_effect_offences fs) e) f))
 
   body_changes-bound : (env : Env) (scope : List Typed) (body : ActionBody) → In env scope → files.body_offences Names w scope body ≡ [] → files.body_offences Types w scope body ≡ []
       → StagedChanges env (body_changes body)
   body_changes-bound env scope (Instant c None) b n t = tt
   body_changes-bound env scope (Instant c (Some e)) b n t = changed_at AtStart env scope e b
-      (empty_right (option_map_or (names.condition_offences Names w scope) c []) (names.effect_offences Names w scope e) n)
-      (empty_right (option_map_or (names.condition_offences Types w scope) c []) (names.effect_offences Types w scope e) t)
+      (nothing_right (option_map_or (names.condition_offences Names w scope) c []) (names.effect_offences Names w scope e) n)
+      (nothing_right (option_map_or (names.condition_offences Types w scope) c []) (names.effect_offences Types w scope e) t)
   body_changes-bound env scope (Durative dur c None) b n t = tt
   body_changes-bound env scope (Durative dur c (Some e)) b n t = timed_effect-bound e env scope b
-      (empty_right (names.duration_offences Names w scope dur ++ option_map_or (names.timed_condition_offences Names w scope) c []) (names.timed_effect_offences Names w scope e) n)
-      (empty_right (names.duration_offences Types w scope dur ++ option_map_or (names.timed_condition_offences Types w scope) c []) (names.timed_effect_offences Types w scope e) t)
+      (nothing_right (names.duration_offences Names w scope dur ++ option_map_or (names.timed_condition_offences Names w scope) c []) (names.timed_effect_offences Names w scope e) n)
+      (nothing_right (names.duration_offences Types w scope dur ++ option_map_or (names.timed_condition_offences Types w scope) c []) (names.timed_effect_offences Types w scope e) t)
 
   -- ---- actions
 
@@ -241,13 +236,13 @@ module _ (d : Domain) (p : Problem) (named : TypesAreNamed d) (w : Tables) (know
       (each_map (λ i. list_all (is_binding (world d p) d.predicates) (instance_atoms (world d p) i) ≡ true) (λ os. record { action = a; args = os }) (choices (columns (world d p) a.parameters))
       (each_weaker (λ os. In (paired (variable_names a.parameters) os) (bind a.parameters [])) (λ os. list_all (is_binding (world d p) d.predicates) (instance_atoms (world d p) (record { action = a; args = os })) ≡ true) one (choices (columns (world d p) a.parameters))
       (map_each (λ e. In e (bind a.parameters [])) (λ os. [] ++ paired (variable_names a.parameters) os) (choices (columns (world d p) a.parameters))
-      (bound-inside d p named w knows [] [] a.parameters (empty_left (variables_offences Names w a.parameters) (files.body_offences Names w (bind a.parameters []) a.body) n) (empty_left (typed_offences a.parameters) (forms.body_offences fs a.body) f) (binds-nothing d p named w knows)))))
+      (bound-inside d p named w knows [] [] a.parameters (nothing_left (variables_offences Names w a.parameters) (files.body_offences Names w (bind a.parameters []) a.body) n) (nothing_left (typed_offences a.parameters) (forms.body_offences fs a.body) f) (binds-nothing d p named w knows)))))
     where
       one : (os : List ℕ) → In (paired (variable_names a.parameters) os) (bind a.parameters []) → list_all (is_binding (world d p) d.predicates) (instance_atoms (world d p) (record { action = a; args = os })) ≡ true
       one os b = all_in (is_binding (world d p) d.predicates) (instance_atoms (world d p) (record { action = a; args = os }))
           (each_append (Bound d p named w knows fs) (flat_map (λ x. part_atoms x.part) (conditions_of (world d p) (record { action = a; args = os })))
           (flat_map (λ c. changed_atoms (world d p) (paired (variable_names a.parameters) os) c.part) (changes a))
           (each_flat_map (Bound d p named w knows fs) (λ x. part_atoms x.part) (conditions_of (world d p) (record { action = a; args = os }))
-          (body_conditions-bound (paired (variable_names a.parameters) os) (bind a.parameters []) a.body b (empty_right (variables_offences Names w a.parameters) (files.body_offences Names w (bind a.parameters []) a.body) n) t (empty_right (typed_offences a.parameters) (forms.body_offences fs a.body) f)))
+          (body_conditions-bound (paired (variable_names a.parameters) os) (bind a.parameters []) a.body b (nothing_right (variables_offences Names w a.parameters) (files.body_offences Names w (bind a.parameters []) a.body) n) t (nothing_right (typed_offences a.parameters) (forms.body_offences fs a.body) f)))
           (each_flat_map (Bound d p named w knows fs) (λ c. changed_atoms (world d p) (paired (variable_names a.parameters) os) c.part) (changes a)
-          (body_changes-bound (paired (variable_names a.parameters) os) (bind a.parameters []) a.body b (empty_right (variables_offences Names w a.parameters) (files.body_offences Names w (bind a.parameters []) a.body) n) t)))
+          (body_changes-bound (paired (variable_names a.parameters) os) (bind a.parameters []) a.body b (nothing_right (variables_offences Names w a.parameters) (files.body_offences Names w (bind a.parameters []) a.body) n) t)))

@@ -6,8 +6,9 @@ use Rattle.std.specs.List.{AllByRecursion as Each, list_any, flat_map}
 use Rattle.std.specs.Option.{option_map_or}
 use Rattle.std.specs.Str.{bytes_eq}
 use Rattle.std.proofs.lemmas.Bool.Decides.{nat_tests}
+use Rattle.std.proofs.lemmas.Bool.{or_cases}
 use Rattle.basics.proofs.Bools.{not_true, and_in}
-use Rattle.basics.proofs.Lists.{each_append, all_out}
+use Rattle.basics.proofs.Lists.{each_append, all_out, nothing_left, nothing_right, nothing_each}
 use Rattle.task_types.specs.WellMade.{arguments_fit}
 use Rattle.pddl_terms.specs.declared.files.Domain.{Domain}
 use Rattle.pddl_terms.specs.declared.files.Problem.{Problem}
@@ -37,7 +38,6 @@ use Rattle.grounder.proofs.Each.{each_weaker, each_map}
 use Rattle.grounder.proofs.Choosing.{choices-fit}
 use Rattle.grounder.proofs.Columns.{value-given}
 use Rattle.accepted_files.specs.Clean.{TypesAreNamed}
-use Rattle.accepted_files.proofs.Empties.{empty_left, empty_right, empty_each}
 use Rattle.accepted_files.proofs.Variables.{Fit, Agrees, agrees-empty, agrees-bound, firsts-keep}
 use Rattle.accepted_files.proofs.Places.{declared-fits, fits-onward, declared-binds}
 
@@ -76,10 +76,6 @@ firsts-each P es (e ∷ more) h k = firsts-each P (with_first es e) more (by (is
     by true = h
     by false = each_append P es (e ∷ []) h (k.0, tt)
 
-either_of : (a b : Bool) → (a || b) ≡ true → (a ≡ true) ⊎ (b ≡ true)
-either_of true b h = inl refl
-either_of false b h = inr h
-
 -- what a domain or a problem declares, as the world has it
 pub record Knows (d : Domain) (p : Problem) (w : Tables) : Type 0 where
   pub types : w.types ≡ types_of d
@@ -106,7 +102,7 @@ problem-knows d p = record {
 module _ (d : Domain) (p : Problem) (named : TypesAreNamed d) (w : Tables) (knows : Knows d p w) where
   type_named : (t : TypeName) → type_offences w t ≡ [] → forms.type_offences t ≡ [] → is_nothing (type_bytes t) ≡ false
   type_named type.Object e f = refl
-  type_named (type.Named n) e f = by (either_of (bytes_eq n.bytes object_word) (is_some (value_of w.types n.bytes)) (known (is_type w n.bytes) n e))
+  type_named (type.Named n) e f = by (or_cases (bytes_eq n.bytes object_word) (is_some (value_of w.types n.bytes)) (known (is_type w n.bytes) n e))
     where
       all : Each (λ e. is_nothing e.0 ≡ false) (types_of d)
       all = firsts-each (λ e. is_nothing e.0 ≡ false) [] (declared_types d) tt
@@ -120,10 +116,10 @@ module _ (d : Domain) (p : Problem) (named : TypesAreNamed d) (w : Tables) (know
   pub groups-typed : (groups : List Group) → types_offences w groups ≡ [] → forms.typed_offences groups ≡ [] → HaveTypes (typed groups)
   groups-typed [] e f = tt
   groups-typed (g ∷ gs) e f = each_append (λ x. is_nothing x.1 ≡ false) (typed_of g) (typed gs) (own g.names)
-      (groups-typed gs (empty_right (type_offences w g.of) (types_offences w gs) e) (empty_right (forms.group_offences g) (forms.typed_offences gs) f))
+      (groups-typed gs (nothing_right (type_offences w g.of) (types_offences w gs) e) (nothing_right (forms.group_offences g) (forms.typed_offences gs) f))
     where
       has : is_nothing (type_bytes g.of) ≡ false
-      has = type_named g.of (empty_left (type_offences w g.of) (types_offences w gs) e) (empty_left (forms.group_offences g) (forms.typed_offences gs) f)
+      has = type_named g.of (nothing_left (type_offences w g.of) (types_offences w gs) e) (nothing_left (forms.group_offences g) (forms.typed_offences gs) f)
 
       own : (ns : List Name) → HaveTypes (map {B = Typed} (λ n. (n.bytes, type_bytes g.of)) ns)
       own [] = tt
@@ -146,11 +142,11 @@ module _ (d : Domain) (p : Problem) (named : TypesAreNamed d) (w : Tables) (know
       (λ os h. record { agrees = agrees-bound (world d p).fitting groups scope os env apart h b.agrees; typed = both }) (choices (columns (world d p) groups)) (choices-fit (columns (world d p) groups)))
     where
       apart : doubles [] (names_of groups) ≡ []
-      apart = empty_right (types_offences w groups) (doubles [] (names_of groups)) e
+      apart = nothing_right (types_offences w groups) (doubles [] (names_of groups)) e
 
       both : HaveTypes (bind groups scope)
       both = each_append (λ x. is_nothing x.1 ≡ false) (with_firsts [] (typed groups)) scope
-          (firsts-each (λ x. is_nothing x.1 ≡ false) [] (typed groups) tt (groups-typed groups (empty_left (types_offences w groups) (doubles [] (names_of groups)) e) f)) b.typed
+          (firsts-each (λ x. is_nothing x.1 ≡ false) [] (typed groups) tt (groups-typed groups (nothing_left (types_offences w groups) (doubles [] (names_of groups)) e) f)) b.typed
 
   -- ---- terms
 
@@ -178,10 +174,10 @@ module _ (d : Domain) (p : Problem) (named : TypesAreNamed d) (w : Tables) (know
     terms_fit (t ∷ ts) [] l e m = absurd (omega arith)
     terms_fit (t ∷ ts) (s ∷ ss) l e m =
         let own : fits w.types (term_sort w scope t) s ≡ true = fitting_terms (fits w.types (term_sort w scope t) s) (term_at t)
-        (empty_left (if fits w.types (term_sort w scope t) s then [] else offence kind.Sort (term_at t) ∷ []) (misfits w scope ts ss) m) in
+        (nothing_left (if fits w.types (term_sort w scope t) s then [] else offence kind.Sort (term_at t) ∷ []) (misfits w scope ts ss) m) in
         and_in (list_any (λ x. x == term_object (world d p) env t) ((world d p).fitting s)) (arguments_fit (map (term_object (world d p) env) ts) (map (world d p).fitting ss))
         (term_fit t s e.0 own)
-        (terms_fit ts ss (omega arith) e.1 (empty_right (if fits w.types (term_sort w scope t) s then [] else offence kind.Sort (term_at t) ∷ []) (misfits w scope ts ss) m))
+        (terms_fit ts ss (omega arith) e.1 (nothing_right (if fits w.types (term_sort w scope t) s then [] else offence kind.Sort (term_at t) ∷ []) (misfits w scope ts ss) m))
 
     as_many : (ts : List Term) (ss : List Text) (at : ℕ) → Each (λ t. term_offences w scope t ≡ []) ts → sorts_offences w scope at ts ss ≡ []
         → arguments_fit (map (term_object (world d p) env) ts) (map (world d p).fitting ss) ≡ true
@@ -198,10 +194,10 @@ module _ (d : Domain) (p : Problem) (named : TypesAreNamed d) (w : Tables) (know
 
     called : (declared : List Signature) (at : ℕ) (n : Name) (ts : List Term) → call_offences Names w declared scope at n ts ≡ [] → call_offences Types w declared scope at n ts ≡ [] → Called declared n ts
     unfolding call_offences
-    called declared at n ts e f = by (value_of declared n.bytes) refl (known (is_some (value_of declared n.bytes)) n (empty_left (undeclared (is_some (value_of declared n.bytes)) n) (flat_map (term_offences w scope) ts) e)) f
+    called declared at n ts e f = by (value_of declared n.bytes) refl (known (is_some (value_of declared n.bytes)) n (nothing_left (undeclared (is_some (value_of declared n.bytes)) n) (flat_map (term_offences w scope) ts) e)) f
       where
         terms : Each (λ t. term_offences w scope t ≡ []) ts
-        terms = empty_each (term_offences w scope) ts (empty_right (undeclared (is_some (value_of declared n.bytes)) n) (flat_map (term_offences w scope) ts) e)
+        terms = nothing_each (term_offences w scope) ts (nothing_right (undeclared (is_some (value_of declared n.bytes)) n) (flat_map (term_offences w scope) ts) e)
 
         by : (o : Option (List Text)) → value_of declared n.bytes ≡ o → is_some o ≡ true → option_map_or (sorts_offences w scope at ts) o [] ≡ [] → Called declared n ts
         by None k s m = cc

@@ -1,7 +1,7 @@
 -- Where no phase finds an offence in a domain and a problem, every ground atom is a binding of its predicate.
 use Rattle.std.proofs.Common.{◌≡◌, Bool, true, List, [], ◌∷◌, ◌++◌, map, Option, Some, None}
 use Rattle.std.specs.List.{AllByRecursion as Each, flat_map, list_all}
-use Rattle.basics.proofs.Lists.{all_in, each_append}
+use Rattle.basics.proofs.Lists.{all_in, each_append, nothing_left, nothing_right, nothing_each}
 use Rattle.rational.specs.Rational.{ℚ}
 use Rattle.pddl_terms.specs.declared.files.ActionDef.{ActionDef}
 use Rattle.pddl_terms.specs.declared.files.Domain.{Domain}
@@ -37,7 +37,6 @@ use Rattle.grounder.specs.Task.{Timing, timing, timings, mentioned_atoms}
 use Rattle.grounder.specs.Terms.{formula_atoms, goal_atoms, constraint_atoms}
 use Rattle.accepted_files.specs.Clean.{IsClean, TypesAreNamed}
 use Rattle.accepted_files.specs.Laws.{CleanAtomsAreBindings}
-use Rattle.accepted_files.proofs.Empties.{empty_left, empty_right, empty_each}
 use Rattle.accepted_files.proofs.Atoms.{Knows, domain-knows, problem-knows, binds-nothing, atom-binds, fluent-binds}
 use Rattle.accepted_files.proofs.Trees.{each_part, formula-bound, constraint-bound, goal-bound}
 use Rattle.accepted_files.proofs.Actions.{action-bound}
@@ -56,15 +55,15 @@ module _ (d : Domain) (p : Problem) (clean : IsClean d p) (named : TypesAreNamed
 
   forms_before : (forms.declarations_offences d ++ FormsOfConstraints d.constraints) ++ FormsOfActions ≡ []
   unfolding forms.domain_forms_with
-  forms_before = empty_left ((forms.declarations_offences d ++ FormsOfConstraints d.constraints) ++ FormsOfActions) (forms.sections_offences d.left_out) clean.domain_forms
+  forms_before = nothing_left ((forms.declarations_offences d ++ FormsOfConstraints d.constraints) ++ FormsOfActions) (forms.sections_offences d.left_out) clean.domain_forms
 
   domain_actions_forms : Each (λ a. forms.action_offences (functions_of d) a ≡ []) d.actions
-  domain_actions_forms = empty_each (forms.action_offences (functions_of d)) d.actions
-      (empty_right (forms.declarations_offences d ++ FormsOfConstraints d.constraints) FormsOfActions forms_before)
+  domain_actions_forms = nothing_each (forms.action_offences (functions_of d)) d.actions
+      (nothing_right (forms.declarations_offences d ++ FormsOfConstraints d.constraints) FormsOfActions forms_before)
 
   domain_constraint_forms : FormsOfConstraints d.constraints ≡ []
-  domain_constraint_forms = empty_right (forms.declarations_offences d) (FormsOfConstraints d.constraints)
-      (empty_left (forms.declarations_offences d ++ FormsOfConstraints d.constraints) FormsOfActions forms_before)
+  domain_constraint_forms = nothing_right (forms.declarations_offences d) (FormsOfConstraints d.constraints)
+      (nothing_left (forms.declarations_offences d ++ FormsOfConstraints d.constraints) FormsOfActions forms_before)
 
   -- the constraints of the domain, then its actions
   abbrev Behind : Phase → List Offence
@@ -74,22 +73,22 @@ module _ (d : Domain) (p : Problem) (clean : IsClean d p) (named : TypesAreNamed
   Declarations phase = files.all_declared_offences phase (files.domain_tables d) d.predicates ++ files.all_declared_offences phase (files.domain_tables d) d.functions
 
   names_behind : Behind Names ≡ []
-  names_behind = empty_right ((files.listed_offences Names (files.domain_tables d) (object_word ∷ []) d.types ++ files.listed_offences Names (files.domain_tables d) [] d.constants) ++ Declarations Names) (Behind Names) clean.domain_names
+  names_behind = nothing_right ((files.listed_offences Names (files.domain_tables d) (object_word ∷ []) d.types ++ files.listed_offences Names (files.domain_tables d) [] d.constants) ++ Declarations Names) (Behind Names) clean.domain_names
 
   types_behind : Behind Types ≡ []
-  types_behind = empty_right (Declarations Types) (Behind Types) clean.domain_types
+  types_behind = nothing_right (Declarations Types) (Behind Types) clean.domain_types
 
   action_offences-none : (phase : Phase) → Behind phase ≡ [] → flat_map (files.action_offences phase (files.domain_tables d)) d.actions ≡ []
-  action_offences-none phase e = empty_left (flat_map (files.action_offences phase (files.domain_tables d)) d.actions) (in_names phase (doubles [] (flat_map (λ a. a.name ∷ []) d.actions)))
-      (empty_right (files.constraints_offences phase (files.domain_tables d) d.constraints) (files.all_action_offences phase (files.domain_tables d) d.actions) e)
+  action_offences-none phase e = nothing_left (flat_map (files.action_offences phase (files.domain_tables d)) d.actions) (in_names phase (doubles [] (flat_map (λ a. a.name ∷ []) d.actions)))
+      (nothing_right (files.constraints_offences phase (files.domain_tables d) d.constraints) (files.all_action_offences phase (files.domain_tables d) d.actions) e)
 
   bound : list_all (λ a. list_all (λ i. list_all (is_binding (world d p) d.predicates) (instance_atoms (world d p) i)) (instances_of (world d p) a)) d.actions ≡ true
   bound = all_in (λ a. list_all (λ i. list_all (is_binding (world d p) d.predicates) (instance_atoms (world d p) i)) (instances_of (world d p) a)) d.actions
       (each_part (files.action_offences Names (files.domain_tables d)) (files.action_offences Types (files.domain_tables d)) (forms.action_offences (functions_of d))
       (λ a. list_all (λ i. list_all (is_binding (world d p) d.predicates) (instance_atoms (world d p) i)) (instances_of (world d p) a) ≡ true) d.actions
       (everywhere d.actions)
-      (empty_each (files.action_offences Names (files.domain_tables d)) d.actions (action_offences-none Names names_behind))
-      (empty_each (files.action_offences Types (files.domain_tables d)) d.actions (action_offences-none Types types_behind))
+      (nothing_each (files.action_offences Names (files.domain_tables d)) d.actions (action_offences-none Names names_behind))
+      (nothing_each (files.action_offences Types (files.domain_tables d)) d.actions (action_offences-none Types types_behind))
       domain_actions_forms)
     where
       everywhere : (actions : List ActionDef) → Each (λ a. files.action_offences Names (files.domain_tables d) a ≡ [] → files.action_offences Types (files.domain_tables d) a ≡ [] → forms.action_offences (functions_of d) a ≡ []
@@ -112,23 +111,23 @@ module _ (d : Domain) (p : Problem) (clean : IsClean d p) (named : TypesAreNamed
 
   wishes_forms : ((goals.goal_offences (functions_of d) p.goal ++ FormsOfConstraints p.constraints) ++ FormsOfCosts) ++ FormsOfMetric ≡ []
   unfolding forms.problem_forms_with
-  wishes_forms = empty_left (forms.wishes_offences (functions_of d) p) (forms.sections_offences p.left_out)
-      (empty_right (forms.facts_offences p) (forms.wishes_offences (functions_of d) p ++ forms.sections_offences p.left_out) clean.problem_forms)
+  wishes_forms = nothing_left (forms.wishes_offences (functions_of d) p) (forms.sections_offences p.left_out)
+      (nothing_right (forms.facts_offences p) (forms.wishes_offences (functions_of d) p ++ forms.sections_offences p.left_out) clean.problem_forms)
 
   asked_forms : (goals.goal_offences (functions_of d) p.goal ++ FormsOfConstraints p.constraints) ++ FormsOfCosts ≡ []
-  asked_forms = empty_left ((goals.goal_offences (functions_of d) p.goal ++ FormsOfConstraints p.constraints) ++ FormsOfCosts) FormsOfMetric wishes_forms
+  asked_forms = nothing_left ((goals.goal_offences (functions_of d) p.goal ++ FormsOfConstraints p.constraints) ++ FormsOfCosts) FormsOfMetric wishes_forms
 
   both_forms : goals.goal_offences (functions_of d) p.goal ++ FormsOfConstraints p.constraints ≡ []
-  both_forms = empty_left (goals.goal_offences (functions_of d) p.goal ++ FormsOfConstraints p.constraints) FormsOfCosts asked_forms
+  both_forms = nothing_left (goals.goal_offences (functions_of d) p.goal ++ FormsOfConstraints p.constraints) FormsOfCosts asked_forms
 
   goal_forms : goals.goal_offences (functions_of d) p.goal ≡ []
-  goal_forms = empty_left (goals.goal_offences (functions_of d) p.goal) (FormsOfConstraints p.constraints) both_forms
+  goal_forms = nothing_left (goals.goal_offences (functions_of d) p.goal) (FormsOfConstraints p.constraints) both_forms
 
   constraint_forms : FormsOfConstraints p.constraints ≡ []
-  constraint_forms = empty_right (goals.goal_offences (functions_of d) p.goal) (FormsOfConstraints p.constraints) both_forms
+  constraint_forms = nothing_right (goals.goal_offences (functions_of d) p.goal) (FormsOfConstraints p.constraints) both_forms
 
   cost_forms : Each (λ c. time_costs.time_cost_offences (functions_of d) c ≡ []) p.time_costs
-  cost_forms = empty_each (time_costs.time_cost_offences (functions_of d)) p.time_costs (empty_right (goals.goal_offences (functions_of d) p.goal ++ FormsOfConstraints p.constraints) FormsOfCosts asked_forms)
+  cost_forms = nothing_each (time_costs.time_cost_offences (functions_of d)) p.time_costs (nothing_right (goals.goal_offences (functions_of d) p.goal ++ FormsOfConstraints p.constraints) FormsOfCosts asked_forms)
 
   -- the goal and the constraints, then the time costs and the metric
   abbrev Wishes : Phase → List Offence
@@ -141,13 +140,13 @@ module _ (d : Domain) (p : Problem) (clean : IsClean d p) (named : TypesAreNamed
   Objects = files.domain_name_offences Names d.name p.domain ++ files.objects_offences Names (files.problem_tables d p) d.constants p.objects
 
   names_told : Each (λ e. files.entry_offences Names (files.problem_tables d p) e ≡ []) p.init
-  names_told = empty_each (files.entry_offences Names (files.problem_tables d p)) p.init (empty_left (flat_map (files.entry_offences Names (files.problem_tables d p)) p.init) (doubles [] (flat_map files.valued_fluent p.init))
-      (empty_right Objects (files.init_offences Names (files.problem_tables d p) p.init) (empty_left (Objects ++ files.init_offences Names (files.problem_tables d p) p.init) (Wishes Names)
-      (empty_left ((Objects ++ files.init_offences Names (files.problem_tables d p) p.init) ++ Wishes Names) (Costs Names) clean.problem_names))))
+  names_told = nothing_each (files.entry_offences Names (files.problem_tables d p)) p.init (nothing_left (flat_map (files.entry_offences Names (files.problem_tables d p)) p.init) (doubles [] (flat_map files.valued_fluent p.init))
+      (nothing_right Objects (files.init_offences Names (files.problem_tables d p) p.init) (nothing_left (Objects ++ files.init_offences Names (files.problem_tables d p) p.init) (Wishes Names)
+      (nothing_left ((Objects ++ files.init_offences Names (files.problem_tables d p) p.init) ++ Wishes Names) (Costs Names) clean.problem_names))))
 
   types_told : Each (λ e. files.entry_offences Types (files.problem_tables d p) e ≡ []) p.init
-  types_told = empty_each (files.entry_offences Types (files.problem_tables d p)) p.init (empty_left (flat_map (files.entry_offences Types (files.problem_tables d p)) p.init) []
-      (empty_left (files.init_offences Types (files.problem_tables d p) p.init) (Wishes Types) (empty_left (files.init_offences Types (files.problem_tables d p) p.init ++ Wishes Types) (Costs Types) clean.problem_types)))
+  types_told = nothing_each (files.entry_offences Types (files.problem_tables d p)) p.init (nothing_left (flat_map (files.entry_offences Types (files.problem_tables d p)) p.init) []
+      (nothing_left (files.init_offences Types (files.problem_tables d p) p.init) (Wishes Types) (nothing_left (files.init_offences Types (files.problem_tables d p) p.init ++ Wishes Types) (Costs Types) clean.problem_types)))
 
   -- nothing is wrong with what is asked of plans
   record Asked (phase : Phase) : Type 0 where
@@ -156,25 +155,25 @@ module _ (d : Domain) (p : Problem) (clean : IsClean d p) (named : TypesAreNamed
 
   names_asked : Asked Names
   names_asked = record {
-    wishes = empty_right (Objects ++ files.init_offences Names (files.problem_tables d p) p.init) (Wishes Names) (empty_left ((Objects ++ files.init_offences Names (files.problem_tables d p) p.init) ++ Wishes Names) (Costs Names) clean.problem_names);
-    costs = empty_right ((Objects ++ files.init_offences Names (files.problem_tables d p) p.init) ++ Wishes Names) (Costs Names) clean.problem_names;
+    wishes = nothing_right (Objects ++ files.init_offences Names (files.problem_tables d p) p.init) (Wishes Names) (nothing_left ((Objects ++ files.init_offences Names (files.problem_tables d p) p.init) ++ Wishes Names) (Costs Names) clean.problem_names);
+    costs = nothing_right ((Objects ++ files.init_offences Names (files.problem_tables d p) p.init) ++ Wishes Names) (Costs Names) clean.problem_names;
   }
 
   types_asked : Asked Types
   types_asked = record {
-    wishes = empty_right (files.init_offences Types (files.problem_tables d p) p.init) (Wishes Types) (empty_left (files.init_offences Types (files.problem_tables d p) p.init ++ Wishes Types) (Costs Types) clean.problem_types);
-    costs = empty_right (files.init_offences Types (files.problem_tables d p) p.init ++ Wishes Types) (Costs Types) clean.problem_types;
+    wishes = nothing_right (files.init_offences Types (files.problem_tables d p) p.init) (Wishes Types) (nothing_left (files.init_offences Types (files.problem_tables d p) p.init ++ Wishes Types) (Costs Types) clean.problem_types);
+    costs = nothing_right (files.init_offences Types (files.problem_tables d p) p.init ++ Wishes Types) (Costs Types) clean.problem_types;
   }
 
   goal_offences-none : (phase : Phase) → Asked phase → names.goal_offences phase (files.problem_tables d p) [] p.goal ≡ []
-  goal_offences-none phase e = empty_left (names.goal_offences phase (files.problem_tables d p) [] p.goal) (files.constraints_offences phase (files.problem_tables d p) p.constraints) e.wishes
+  goal_offences-none phase e = nothing_left (names.goal_offences phase (files.problem_tables d p) [] p.goal) (files.constraints_offences phase (files.problem_tables d p) p.constraints) e.wishes
 
   constraint_offences-none : (phase : Phase) → Asked phase → files.constraints_offences phase (files.problem_tables d p) p.constraints ≡ []
-  constraint_offences-none phase e = empty_right (names.goal_offences phase (files.problem_tables d p) [] p.goal) (files.constraints_offences phase (files.problem_tables d p) p.constraints) e.wishes
+  constraint_offences-none phase e = nothing_right (names.goal_offences phase (files.problem_tables d p) [] p.goal) (files.constraints_offences phase (files.problem_tables d p) p.constraints) e.wishes
 
   cost_offences-none : (phase : Phase) → Asked phase → flat_map (files.cost_offences phase (files.problem_tables d p)) p.time_costs ≡ []
-  cost_offences-none phase e = empty_left (flat_map (files.cost_offences phase (files.problem_tables d p)) p.time_costs) (in_names phase (doubles [] (files.cost_names p.time_costs)))
-      (empty_left (files.all_cost_offences phase (files.problem_tables d p) p.time_costs) (files.metric_offences phase (files.problem_tables d p) p.metric) e.costs)
+  cost_offences-none phase e = nothing_left (flat_map (files.cost_offences phase (files.problem_tables d p)) p.time_costs) (in_names phase (doubles [] (files.cost_names p.time_costs)))
+      (nothing_left (files.all_cost_offences phase (files.problem_tables d p) p.time_costs) (files.metric_offences phase (files.problem_tables d p) p.metric) e.costs)
 
   -- ---- what is mentioned
 
@@ -183,8 +182,8 @@ module _ (d : Domain) (p : Problem) (clean : IsClean d p) (named : TypesAreNamed
 
   domain_mentions : Each Atom (either [] (constraint_atoms (world d p) []) d.constraints)
   domain_mentions = constrained (files.domain_tables d) (domain-knows d p) d.constraints
-      (empty_left (files.constraints_offences Names (files.domain_tables d) d.constraints) (files.all_action_offences Names (files.domain_tables d) d.actions) names_behind)
-      (empty_left (files.constraints_offences Types (files.domain_tables d) d.constraints) (files.all_action_offences Types (files.domain_tables d) d.actions) types_behind) domain_constraint_forms
+      (nothing_left (files.constraints_offences Names (files.domain_tables d) d.constraints) (files.all_action_offences Names (files.domain_tables d) d.actions) names_behind)
+      (nothing_left (files.constraints_offences Types (files.domain_tables d) d.constraints) (files.all_action_offences Types (files.domain_tables d) d.actions) types_behind) domain_constraint_forms
 
   problem_mentions : Each Atom (either [] (constraint_atoms (world d p) []) p.constraints)
   problem_mentions = constrained (files.problem_tables d p) (problem-knows d p) p.constraints (constraint_offences-none Names names_asked) (constraint_offences-none Types types_asked) constraint_forms
@@ -194,7 +193,7 @@ module _ (d : Domain) (p : Problem) (clean : IsClean d p) (named : TypesAreNamed
   cost_mentions [] n t f = tt
   cost_mentions (cost.LeftOut at ∷ cs) n t f = cost_mentions cs n.1 t.1 f.1
   cost_mentions (cost.Named at m x c ∷ cs) n t f = each_append Atom (formula_atoms (world d p) [] x) (flat_map (λ c. formula_atoms (world d p) [] c.formula) (flat_map cost_of cs))
-      (formula-bound d p named (files.problem_tables d p) (problem-knows d p) (functions_of d) x [] [] around.Formula (binds-nothing d p named (files.problem_tables d p) (problem-knows d p)) n.0 t.0 (empty_left (formulas.formula_offences (functions_of d) x) (time_costs.curve_offences at c) f.0))
+      (formula-bound d p named (files.problem_tables d p) (problem-knows d p) (functions_of d) x [] [] around.Formula (binds-nothing d p named (files.problem_tables d p) (problem-knows d p)) n.0 t.0 (nothing_left (formulas.formula_offences (functions_of d) x) (time_costs.curve_offences at c) f.0))
       (cost_mentions cs n.1 t.1 f.1)
 
   abbrev OfDomain : List GroundAtom
@@ -210,7 +209,7 @@ module _ (d : Domain) (p : Problem) (clean : IsClean d p) (named : TypesAreNamed
   mentioned = all_in (is_binding (world d p) d.predicates) (mentioned_atoms (world d p) d p)
       (each_append Atom ((goal_atoms (world d p) [] p.goal ++ OfDomain) ++ OfProblem) OfCosts
       (each_append Atom (goal_atoms (world d p) [] p.goal ++ OfDomain) OfProblem (each_append Atom (goal_atoms (world d p) [] p.goal) OfDomain goal_mentions domain_mentions) problem_mentions)
-      (cost_mentions p.time_costs (empty_each (files.cost_offences Names (files.problem_tables d p)) p.time_costs (cost_offences-none Names names_asked)) (empty_each (files.cost_offences Types (files.problem_tables d p)) p.time_costs (cost_offences-none Types types_asked)) cost_forms))
+      (cost_mentions p.time_costs (nothing_each (files.cost_offences Names (files.problem_tables d p)) p.time_costs (cost_offences-none Names names_asked)) (nothing_each (files.cost_offences Types (files.problem_tables d p)) p.time_costs (cost_offences-none Types types_asked)) cost_forms))
 
   -- ---- `:init`
 

@@ -1,4 +1,3 @@
-pub mod Empties
 pub mod Variables
 pub mod Places
 pub mod OffenceWalks

@@ -1,7 +1,7 @@
 -- Where no phase finds an offence in a tree, all ground atoms of its bindings are bindings of their predicates.
 use Rattle.std.proofs.Common.{◌≡◌, sym, subst, ◌∙◌, ℕ, Bool, true, false, if◌then◌else◌, List, [], ◌∷◌, ◌++◌, Option, Some, None, ◌==◌}
 use Rattle.std.specs.List.{AllByRecursion as Each, flat_map}
-use Rattle.basics.proofs.Lists.{each_append}
+use Rattle.basics.proofs.Lists.{each_append, nothing_left, nothing_right, nothing_each}
 use Rattle.pddl_terms.specs.declared.files.Domain.{Domain}
 use Rattle.pddl_terms.specs.declared.files.Problem.{Problem}
 use Rattle.pddl_terms.specs.declared.trees.Atom.{Atom}
@@ -46,7 +46,6 @@ use Rattle.grounder.proofs.Each.{each_weaker, each_map, each_flat_map}
 use Rattle.grounder.proofs.Inductions.{each_condition, each_formula, each_preference, each_goal, each_constraint}
 use Rattle.grounder.proofs.Walks as walk
 use Rattle.accepted_files.specs.Clean.{TypesAreNamed}
-use Rattle.accepted_files.proofs.Empties.{empty_left, empty_right, empty_each}
 use Rattle.accepted_files.proofs.OffenceWalks as offence
 use Rattle.accepted_files.proofs.Atoms.{Knows, Binds, bound-inside, atom-binds}
 
@@ -92,9 +91,9 @@ module _ (d : Domain) (p : Problem) (named : TypesAreNamed d) (w : Tables) (know
       (each_flat_map (λ x. Each Bound (part_atoms x)) (condition_parts (world d p) env) cs
       (each_part (names.condition_offences Names w scope) (names.condition_offences Types w scope) (conditions.condition_below fs None) (λ c. Bounded (condition_parts (world d p) env c)) cs
       (each_weaker ConditionBound (λ c. names.condition_offences Names w scope c ≡ [] → names.condition_offences Types w scope c ≡ [] → conditions.condition_below fs None c ≡ [] → Bounded (condition_parts (world d p) env c)) (λ c k. k env scope None b) cs h)
-      (empty_each (names.condition_offences Names w scope) cs (sym (offence.condition-And Names w scope a cs) ∙ n))
-      (empty_each (names.condition_offences Types w scope) cs (sym (offence.condition-And Types w scope a cs) ∙ t))
-      (empty_each (conditions.condition_below fs None) cs (sym (condition_form.condition_below-and fs above a cs) ∙ f))))
+      (nothing_each (names.condition_offences Names w scope) cs (sym (offence.condition-And Names w scope a cs) ∙ n))
+      (nothing_each (names.condition_offences Types w scope) cs (sym (offence.condition-And Types w scope a cs) ∙ t))
+      (nothing_each (conditions.condition_below fs None) cs (sym (condition_form.condition_below-and fs above a cs) ∙ f))))
 
   condition_forall : (a : ℕ) (groups : List Group) (c : CondTree) → ConditionBound c → ConditionBound (cond.Forall a groups c)
   condition_forall a groups c h env scope above b n t f =
@@ -103,8 +102,8 @@ module _ (d : Domain) (p : Problem) (named : TypesAreNamed d) (w : Tables) (know
       let f' = sym (condition_form.condition_below-forall fs above a groups c) ∙ f in
       subst Bounded (sym (world_walk.condition_parts-Forall (world d p) env a groups c))
       (each_flat_map (λ x. Each Bound (part_atoms x)) (λ e. condition_parts (world d p) e c) (bindings (world d p) env groups)
-      (inside (λ e. Bounded (condition_parts (world d p) e c)) env scope groups b (empty_left _ _ n') (empty_left _ _ f')
-      (λ e k. h e (bind groups scope) None k (empty_right _ _ n') t' (empty_right _ _ f'))))
+      (inside (λ e. Bounded (condition_parts (world d p) e c)) env scope groups b (nothing_left _ _ n') (nothing_left _ _ f')
+      (λ e k. h e (bind groups scope) None k (nothing_right _ _ n') t' (nothing_right _ _ f'))))
 
   -- an `=` has no literal
   condition_equal : (a : ℕ) (l r : Side) → ConditionBound (cond.Equal a l r)
@@ -125,7 +124,7 @@ module _ (d : Domain) (p : Problem) (named : TypesAreNamed d) (w : Tables) (know
       (each_map (λ x. Each Bound (part_atoms x)) negated (condition_parts (world d p) env c)
       (each_weaker (λ x. Each Bound (part_atoms x)) (λ x. Each Bound (part_atoms (negated x))) turned (condition_parts (world d p) env c)
       (h env scope (Some a) b (sym (offence.condition-Not Names w scope a c) ∙ n) (sym (offence.condition-Not Types w scope a c) ∙ t)
-      (empty_right _ _ (sym (condition_form.condition_below-not fs above a c) ∙ f))))))
+      (nothing_right _ _ (sym (condition_form.condition_below-not fs above a c) ∙ f))))))
       condition_equal
       (λ a m l r env scope above b n t f. subst Bounded (sym (world_walk.condition_parts-Compare (world d p) env a m l r)) (tt, tt))
       (λ a env scope above b n t f. subst Bounded (sym (world_walk.condition_parts-LeftOut (world d p) env a)) tt)
@@ -141,15 +140,15 @@ module _ (d : Domain) (p : Problem) (named : TypesAreNamed d) (w : Tables) (know
   formulas_each fms h env scope b n t f = each_flat_map Bound (formula_atoms (world d p) env) fms
       (each_part (names.formula_offences Names w scope) (names.formula_offences Types w scope) (formulas.formula_in fs around.Formula) (λ x. Each Bound (formula_atoms (world d p) env x)) fms
       (each_weaker FormulaBound (λ x. names.formula_offences Names w scope x ≡ [] → names.formula_offences Types w scope x ≡ [] → formulas.formula_in fs around.Formula x ≡ [] → Each Bound (formula_atoms (world d p) env x)) (λ x k. k env scope around.Formula b) fms h)
-      (empty_each (names.formula_offences Names w scope) fms n) (empty_each (names.formula_offences Types w scope) fms t) (empty_each (formulas.formula_in fs around.Formula) fms f))
+      (nothing_each (names.formula_offences Names w scope) fms n) (nothing_each (names.formula_offences Types w scope) fms t) (nothing_each (formulas.formula_in fs around.Formula) fms f))
 
   -- what a quantifier's body gives under each binding
   quantified : (groups : List Group) (x : FactForm) → FormulaBound x → (env : Env) (scope : List Typed) → Scoped env scope → variables_offences Names w groups ++ names.formula_offences Names w (bind groups scope) x ≡ []
       → variables_offences Types w groups ++ names.formula_offences Types w (bind groups scope) x ≡ [] → typed_offences groups ++ formulas.formula_in fs around.Formula x ≡ []
       → Each Bound (flat_map (λ e. formula_atoms (world d p) e x) (bindings (world d p) env groups))
   quantified groups x h env scope b n t f = each_flat_map Bound (λ e. formula_atoms (world d p) e x) (bindings (world d p) env groups)
-      (inside (λ e. Each Bound (formula_atoms (world d p) e x)) env scope groups b (empty_left _ _ n) (empty_left _ _ f)
-      (λ e k. h e (bind groups scope) around.Formula k (empty_right _ _ n) t (empty_right _ _ f)))
+      (inside (λ e. Each Bound (formula_atoms (world d p) e x)) env scope groups b (nothing_left _ _ n) (nothing_left _ _ f)
+      (λ e k. h e (bind groups scope) around.Formula k (nothing_right _ _ n) t (nothing_right _ _ f)))
 
   pub formula-bound : (f : FactForm) → FormulaBound f
   formula-bound = each_formula FormulaBound
@@ -166,7 +165,7 @@ module _ (d : Domain) (p : Problem) (named : TypesAreNamed d) (w : Tables) (know
       (λ a x y h k env scope o b n t f. let n' = sym (offence.formula-Imply Names w scope a x y) ∙ n in let t' = sym (offence.formula-Imply Types w scope a x y) ∙ t in let f' = sym (formula_form.formula_in-imply fs o a x y) ∙ f in
       subst (Each Bound) (sym (walk.formula_atoms-Imply (world d p) env a x y))
       (each_append Bound (formula_atoms (world d p) env x) (formula_atoms (world d p) env y)
-      (h env scope around.Formula b (empty_left _ _ n') (empty_left _ _ t') (empty_left _ _ f')) (k env scope around.Formula b (empty_right _ _ n') (empty_right _ _ t') (empty_right _ _ f'))))
+      (h env scope around.Formula b (nothing_left _ _ n') (nothing_left _ _ t') (nothing_left _ _ f')) (k env scope around.Formula b (nothing_right _ _ n') (nothing_right _ _ t') (nothing_right _ _ f'))))
       (λ a gs x h env scope o b n t f. subst (Each Bound) (sym (walk.formula_atoms-Exists (world d p) env a gs x))
       (quantified gs x h env scope b (sym (offence.formula-Exists Names w scope a gs x) ∙ n) (sym (offence.formula-Exists Types w scope a gs x) ∙ t) (sym (formula_form.formula_in-exists fs o a gs x) ∙ f)))
       (λ a gs x h env scope o b n t f. subst (Each Bound) (sym (walk.formula_atoms-Forall (world d p) env a gs x))
@@ -179,7 +178,7 @@ module _ (d : Domain) (p : Problem) (named : TypesAreNamed d) (w : Tables) (know
       → names.formula_offences Types w scope x ++ names.formula_offences Types w scope y ≡ [] → formulas.formula_offences fs x ++ formulas.formula_offences fs y ≡ []
       → Each Bound (formula_atoms (world d p) env x ++ formula_atoms (world d p) env y)
   two x y env scope b n t f = each_append Bound (formula_atoms (world d p) env x) (formula_atoms (world d p) env y)
-      (formula-bound x env scope around.Formula b (empty_left _ _ n) (empty_left _ _ t) (empty_left _ _ f)) (formula-bound y env scope around.Formula b (empty_right _ _ n) (empty_right _ _ t) (empty_right _ _ f))
+      (formula-bound x env scope around.Formula b (nothing_left _ _ n) (nothing_left _ _ t) (nothing_left _ _ f)) (formula-bound y env scope around.Formula b (nothing_right _ _ n) (nothing_right _ _ t) (nothing_right _ _ f))
 
   -- a constraint with one formula, which has `( )` for its second
   one : (x : FactForm) (env : Env) (scope : List Typed) → Scoped env scope → names.formula_offences Names w scope x ≡ [] → names.formula_offences Types w scope x ≡ []
@@ -208,14 +207,14 @@ module _ (d : Domain) (p : Problem) (named : TypesAreNamed d) (w : Tables) (know
       (each_flat_map Bound (constraint_atoms (world d p) env) cs
       (each_part (names.constraint_offences Names w scope) (names.constraint_offences Types w scope) (formulas.constraint_offences fs) (λ c. Each Bound (constraint_atoms (world d p) env c)) cs
       (each_weaker ConstraintBound (λ c. names.constraint_offences Names w scope c ≡ [] → names.constraint_offences Types w scope c ≡ [] → formulas.constraint_offences fs c ≡ [] → Each Bound (constraint_atoms (world d p) env c)) (λ c k. k env scope b) cs h)
-      (empty_each (names.constraint_offences Names w scope) cs (sym (offence.constraint-And Names w scope a cs) ∙ n))
-      (empty_each (names.constraint_offences Types w scope) cs (sym (offence.constraint-And Types w scope a cs) ∙ t))
-      (empty_each (formulas.constraint_offences fs) cs (sym (formula_form.constraint_offences-and fs a cs) ∙ f)))))
+      (nothing_each (names.constraint_offences Names w scope) cs (sym (offence.constraint-And Names w scope a cs) ∙ n))
+      (nothing_each (names.constraint_offences Types w scope) cs (sym (offence.constraint-And Types w scope a cs) ∙ t))
+      (nothing_each (formulas.constraint_offences fs) cs (sym (formula_form.constraint_offences-and fs a cs) ∙ f)))))
       (λ a gs c h env scope b n t f. let n' = sym (offence.constraint-Forall Names w scope a gs c) ∙ n in let t' = sym (offence.constraint-Forall Types w scope a gs c) ∙ t in let f' = sym (formula_form.constraint_offences-forall fs a gs c) ∙ f in
       subst (Each Bound) (sym (walk.constraint_atoms-Forall (world d p) env a gs c))
       (each_flat_map Bound (λ e. constraint_atoms (world d p) e c) (bindings (world d p) env gs)
-      (inside (λ e. Each Bound (constraint_atoms (world d p) e c)) env scope gs b (empty_left _ _ n') (empty_left _ _ f')
-      (λ e k. h e (bind gs scope) k (empty_right _ _ n') t' (empty_right _ _ f')))))
+      (inside (λ e. Each Bound (constraint_atoms (world d p) e c)) env scope gs b (nothing_left _ _ n') (nothing_left _ _ f')
+      (λ e k. h e (bind gs scope) k (nothing_right _ _ n') t' (nothing_right _ _ f')))))
       (λ x env scope b n t f. subst (Each Bound) (sym (walk.constraint_atoms-Hard (world d p) env x))
       (watched-bound x env scope b (sym (offence.constraint-Hard Names w scope x) ∙ n) (sym (offence.constraint-Hard Types w scope x) ∙ t) (sym (formula_form.constraint_offences-hard fs x) ∙ f)))
       (λ a m x env scope b n t f. subst (Each Bound) (sym (walk.constraint_atoms-Preference (world d p) env a m x))
@@ -240,9 +239,9 @@ module _ (d : Domain) (p : Problem) (named : TypesAreNamed d) (w : Tables) (know
       (each_flat_map (λ y. Each Bound (preference_atoms (world d p) env y)) (preference_parts (world d p)) ss
       (each_part (names.soft_offences Names w scope) (names.soft_offences Types w scope) (goals.soft_offences fs) (λ s. Each (λ y. Each Bound (preference_atoms (world d p) env y)) (preference_parts (world d p) s)) ss
       (each_weaker SoftBound (λ s. names.soft_offences Names w scope s ≡ [] → names.soft_offences Types w scope s ≡ [] → goals.soft_offences fs s ≡ [] → Each (λ y. Each Bound (preference_atoms (world d p) env y)) (preference_parts (world d p) s)) (λ s k. k env scope b) ss h)
-      (empty_each (names.soft_offences Names w scope) ss (sym (offence.soft-And Names w scope a ss) ∙ n))
-      (empty_each (names.soft_offences Types w scope) ss (sym (offence.soft-And Types w scope a ss) ∙ t))
-      (empty_each (goals.soft_offences fs) ss (sym (goal_form.soft_offences-and fs a ss) ∙ f)))))
+      (nothing_each (names.soft_offences Names w scope) ss (sym (offence.soft-And Names w scope a ss) ∙ n))
+      (nothing_each (names.soft_offences Types w scope) ss (sym (offence.soft-And Types w scope a ss) ∙ t))
+      (nothing_each (goals.soft_offences fs) ss (sym (goal_form.soft_offences-and fs a ss) ∙ f)))))
     where
       -- an `=` mentions no fact
       sides : (env : Env) (a : ℕ) (l r : Side) (c : Bool) → Each Bound (preference_atoms (world d p) env (if c then OfFacts (form.Equal a l r) else OfNumbers (cond.Equal a l r)))
@@ -262,14 +261,14 @@ module _ (d : Domain) (p : Problem) (named : TypesAreNamed d) (w : Tables) (know
       (each_flat_map Bound (goal_atoms (world d p) env) gs
       (each_part (names.goal_offences Names w scope) (names.goal_offences Types w scope) (goals.goal_offences fs) (λ g. Each Bound (goal_atoms (world d p) env g)) gs
       (each_weaker GoalBound (λ g. names.goal_offences Names w scope g ≡ [] → names.goal_offences Types w scope g ≡ [] → goals.goal_offences fs g ≡ [] → Each Bound (goal_atoms (world d p) env g)) (λ g k. k env scope b) gs h)
-      (empty_each (names.goal_offences Names w scope) gs (sym (offence.goal-And Names w scope a gs) ∙ n))
-      (empty_each (names.goal_offences Types w scope) gs (sym (offence.goal-And Types w scope a gs) ∙ t))
-      (empty_each (goals.goal_offences fs) gs (sym (goal_form.goal_offences-and fs a gs) ∙ f)))))
+      (nothing_each (names.goal_offences Names w scope) gs (sym (offence.goal-And Names w scope a gs) ∙ n))
+      (nothing_each (names.goal_offences Types w scope) gs (sym (offence.goal-And Types w scope a gs) ∙ t))
+      (nothing_each (goals.goal_offences fs) gs (sym (goal_form.goal_offences-and fs a gs) ∙ f)))))
       (λ a gs g h env scope b n t f. let n' = sym (offence.goal-Forall Names w scope a gs g) ∙ n in let t' = sym (offence.goal-Forall Types w scope a gs g) ∙ t in let f' = sym (goal_form.goal_offences-forall fs a gs g) ∙ f in
       subst (Each Bound) (sym (walk.goal_atoms-Forall (world d p) env a gs g))
       (each_flat_map Bound (λ e. goal_atoms (world d p) e g) (bindings (world d p) env gs)
-      (inside (λ e. Each Bound (goal_atoms (world d p) e g)) env scope gs b (empty_left _ _ n') (empty_left _ _ f')
-      (λ e k. h e (bind gs scope) k (empty_right _ _ n') t' (empty_right _ _ f')))))
+      (inside (λ e. Each Bound (goal_atoms (world d p) e g)) env scope gs b (nothing_left _ _ n') (nothing_left _ _ f')
+      (λ e k. h e (bind gs scope) k (nothing_right _ _ n') t' (nothing_right _ _ f')))))
       (λ a m s env scope b n t f. subst (Each Bound) (sym (walk.goal_atoms-Preference (world d p) env a m s))
       (each_flat_map Bound (preference_atoms (world d p) env) (preference_parts (world d p) s)
       (soft-bound s env scope b (sym (offence.goal-Preference Names w scope a m s) ∙ n) (sym (offence.goal-Preference Types w scope a m s) ∙ t) (sym (goal_form.goal_offences-preference fs a m s) ∙ f))))

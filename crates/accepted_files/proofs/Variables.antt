@@ -6,6 +6,7 @@ use Rattle.std.specs.Str.{bytes_eq}
 use Rattle.std.proofs.lemmas.List.{map-append}
 use Rattle.std.proofs.lemmas.List.Folds.{list_any-append}
 use Rattle.basics.proofs.Bools.{not_true, and_left, and_right, and_in, or_false, or_false_left, or_false_right, or_left}
+use Rattle.basics.proofs.Lists.{any_left, any_right, nothing_left, nothing_right}
 use Rattle.task_types.specs.WellMade.{arguments_fit}
 use Rattle.pddl_terms.specs.declared.trees.Group.{Group}
 use Rattle.pddl_terms.specs.declared.trees.Name.{Name}
@@ -17,8 +18,6 @@ use Rattle.pddl_names.proofs.Ways.{same_text, text_itself, other_text}
 use Rattle.pddl_names.proofs.Tabled.{value_of-there}
 use Rattle.ground_world.specs.World.{Env, object_at, bound}
 use Rattle.ground_world.specs.Bindings.{paired}
-use Rattle.grounder.proofs.Each.{any_left, any_right}
-use Rattle.accepted_files.proofs.Empties.{empty_left, empty_right}
 
 -- ---- names, each once
 
@@ -106,11 +105,11 @@ not_double false at e = refl
 
 module _ (n : Name) (more : List Name) (seen : List Text) (clean : doubles seen (n ∷ more) ≡ []) where
   head_new : among seen n.bytes ≡ false
-  head_new = not_double (among seen n.bytes) n.at (empty_left (if among seen n.bytes then offence kind.Double n.at ∷ [] else []) (doubles (with_new seen (n.bytes ∷ [])) more) clean)
+  head_new = not_double (among seen n.bytes) n.at (nothing_left (if among seen n.bytes then offence kind.Double n.at ∷ [] else []) (doubles (with_new seen (n.bytes ∷ [])) more) clean)
 
   tail_new : doubles (seen ++ (n.bytes ∷ [])) more ≡ []
   tail_new = ap (λ b. doubles (if b then seen else seen ++ (n.bytes ∷ [])) more) (sym head_new)
-      ∙ empty_right (if among seen n.bytes then offence kind.Double n.at ∷ [] else []) (doubles (with_new seen (n.bytes ∷ [])) more) clean
+      ∙ nothing_right (if among seen n.bytes then offence kind.Double n.at ∷ [] else []) (doubles (with_new seen (n.bytes ∷ [])) more) clean
 
 abbrev texts_of : List Name → List Text
 texts_of ns = map (λ n. n.bytes) ns

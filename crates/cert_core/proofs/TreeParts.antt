@@ -17,9 +17,8 @@ use Rattle.cert_core.specs.Faults.{fault_of, tree_fault_of, multipliers_of}
 use Rattle.cert_core.specs.Trees.{Above, AtLeaf, Leaf, Misfit, Shows, is_undecided, is_fit, below_split, child_leaves, leaves_of, leaf_duties, is_between, asked_duties, between_duties, at_leaf, top, leaf_count}
 use Rattle.cert_core.specs.LeafWalks.{JudgesLeaves}
 use Rattle.basics.proofs.Duties.{ComesDownTo, ComesDownTo-itself, ComesDownTo-part, ComesDownTo-within, AllMet-append, IsFirstUnmet-left}
-use Rattle.basics.proofs.Lists.{each_append}
+use Rattle.basics.proofs.Lists.{each_append, drop_item}
 use Rattle.cert_core.proofs.Leaves.{leaves_of-split, leaves_of-none, leaves_of-at_least, each_tree}
-use Rattle.cert_core.proofs.PairLoops.{drop_item}
 use Rattle.cert_core.proofs.Counting.{leaf_count-no_child, leaf_count-children, leaf_count-none, leaf_count-at_least}
 
 -- ---- a leaf's duties, each named with the leaf's number

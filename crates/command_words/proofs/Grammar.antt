@@ -9,6 +9,8 @@ use Rattle.clap.specs.Lexer.{long_of, short_of, short_of_rest}
 use Rattle.std.specs.Cmp.{unsigned_Decides}
 use Rattle.std.specs.declared.alloc.Global.{Global}
 use Rattle.std.proofs.lemmas.Str.{IsUtf8-drop, IsCharBoundary-after_ascii, IsUtf8-string_bytes, encodes-chars}
+use Rattle.std.proofs.Math.Bool.{and-false}
+use Rattle.std.proofs.lemmas.List.{append-nil}
 use Rattle.clap.specs.Kinds.{Kinds, or_else}
 use Rattle.clap.specs.Walk.{Held, default_rows, finished, first_of, nothing_held, rows_after, walk, walk_from, with_default, after_flag, long_met, Row, Rule, Step, Waiting, Walk, idle, option, trailing, value, next, after_step, arg_by_id, arg_by_index, arg_by_long, arg_by_short, at_row, has_row, long_or_other, more_values, short_or_plain, subcommand_met, subcommand_or_other, to_positional, is_pending, used_by_id, option_word, positional, is_empty, pushed, settled, used, walked, with_values, without, word_met, reading_by, next_position}
 use Rattle.clap.specs.Simple.{Shape, built, entered, filled, help_rule, new_shape, with_index}
@@ -40,10 +42,6 @@ rows seen = map row seen
 has_row-rows : (name : Text) (seen : Pairs) → has_row name (rows seen) ≡ has_text name seen
 has_row-rows name [] = refl
 has_row-rows name (g ∷ gs) = ap (λ b. bytes_eq g.0 name || b) (has_row-rows name gs)
-
-append-nil : {X : Type 0} (xs : List X) → xs ++ [] ≡ xs
-append-nil [] = refl
-append-nil (x ∷ xs) = ap (λ l. x ∷ l) (append-nil xs)
 
 at_row-absent : (id : Text) (change : Row → List Row) (missing rs : List Row) → has_row id rs ≡ false → at_row id change missing rs ≡ rs ++ missing
 at_row-absent id change missing [] none = refl
@@ -150,10 +148,6 @@ stopped_there (k ∷ ks) x e = refl
 
 went_on : {X : Type 0} (ks : Kinds) (x : Option X) → ks ≡ [] → if_empty ks x ≡ x
 went_on ks x e = ap (λ k. if_empty k x) e
-
-and_false : (b : Bool) → (b && false) ≡ false
-and_false true = refl
-and_false false = refl
 
 no_subcommand : (waiting : Waiting) (word : Text) → subcommand_met [] waiting word ≡ None
 no_subcommand idle word = refl
@@ -295,12 +289,12 @@ module _ (name : Text) (c : List Rule) (options : List Text) (by_long : (n : Tex
 
   place_fault : (n : ℕ) (p : Text) (h : Held) → arg_by_index c n ≡ Some (the_place n p) → step_fault s n h value ≡ settle_fault c false h
   place_fault n p h found =
-      (λ i. option_map_or (λ a. positional_fault c false a h) (found i) (kind.UnknownArgument ∷ [])) ∙ (λ i. cond (and_false (is_pending (the_place n p) h.pending) i) [] (settle_fault c false h))
+      (λ i. option_map_or (λ a. positional_fault c false a h) (found i) (kind.UnknownArgument ∷ [])) ∙ (λ i. cond (and-false (is_pending (the_place n p) h.pending) i) [] (settle_fault c false h))
 
   place_taken : (n : ℕ) (p word : Text) (h : Held) (waiting : Waiting) (t : Bool) → arg_by_index c n ≡ Some (the_place n p)
       → after_step c word (at h waiting n t) h value ≡ at (held p word (settled c h).rows h.skip) idle (next_position (the_place n p) n) (t || false)
   place_taken n p word h waiting t found =
-      (λ i. to_positional c (found i) word (at h waiting n t) h) ∙ (λ i. at (pushed p word (cond (and_false (is_pending (the_place n p) h.pending) i) h (settled c h))) idle (next_position (the_place n p) n) (t || false))
+      (λ i. to_positional c (found i) word (at h waiting n t) h) ∙ (λ i. at (pushed p word (cond (and-false (is_pending (the_place n p) h.pending) i) h (settled c h))) idle (next_position (the_place n p) n) (t || false))
 
   -- ---- behind `--`
 

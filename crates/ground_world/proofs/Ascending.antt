@@ -4,7 +4,7 @@ use Rattle.std.specs.List.{AllByRecursion, IsDistinct, flat_map, list_any, enume
 use Rattle.std.specs.List.Sorted.{IsStrictlySortedBy, IsSorted}
 use Rattle.std.specs.Str.{bytes_eq}
 use Rattle.std.specs.Ordering.{nat_cmp, is_eq, is_lt, ordering_then}
-use Rattle.std.specs.Cmp.{IsTotalOrder, nat_cmp_is}
+use Rattle.std.specs.Cmp.{IsTotalOrder}
 use Rattle.std.specs.Cmp.Lexicographic.{slice_cmp, pointwise, same_text}
 use Rattle.std.specs.declared.alloc.Global.{Global}
 use Rattle.std.specs.declared.cmp.Ordering.{Ordering}
@@ -13,6 +13,7 @@ use Rattle.std.proofs.lemmas.Cmp.{nat_cmp_total, nat_list_cmp_total, tied_itself
 use Rattle.std.proofs.lemmas.Map.Text.{is_eq-slice_cmp}
 use Rattle.std.proofs.lemmas.Map.Keys.{sorted_from_all_adjacent, apart_from_distinct}
 use Rattle.pddl_names.proofs.Numbered.{contents}
+use Rattle.exact_lin.proofs.Merge.{lt-less}
 
 -- ---- any order
 
@@ -46,9 +47,6 @@ module _ {X Y : Type 0} (R : X → X → Ordering) (S : Y → Y → Ordering) (f
 
 abbrev pub list_cmp : List ℕ → List ℕ → Ordering
 list_cmp = slice_cmp nat_cmp
-
-pub less_number : (m n : ℕ) → m < n → nat_cmp m n ≡ Less
-less_number m n h = sym (nat_cmp_is m n Less h)
 
 pub same_first : (n : ℕ) (r s : List ℕ) → list_cmp r s ≡ Less → list_cmp (n ∷ r) (n ∷ s) ≡ Less
 same_first n r s h = ap (λ o. ordering_then o (list_cmp r s)) (tied_itself nat_cmp_total n) ∙ h
@@ -88,7 +86,7 @@ module _ {X : Type 0} (f : X → ℕ) (t : X → List (List ℕ)) where
 
 behind_number : {X : Type 0} (m : ℕ) (xs : List X) (n : ℕ) → m < n → AllByRecursion (λ y. nat_cmp m y.0 ≡ Less) (enumerate_from n xs)
 behind_number m [] n h = tt
-behind_number m (x ∷ xs) n h = (less_number m n h, behind_number m xs (n + 1) (omega arith))
+behind_number m (x ∷ xs) n h = (lt-less m n h, behind_number m xs (n + 1) (omega arith))
 
 pub sorted-enumerate : {X : Type 0} (xs : List X) (n : ℕ) → IsStrictlySortedBy (λ x y. nat_cmp x.0 y.0) (enumerate_from n xs)
 unfolding IsStrictlySortedBy

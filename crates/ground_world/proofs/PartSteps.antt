@@ -15,9 +15,10 @@ use Rattle.ground_world.specs.Bindings.{numbers, choice_count, choice_at, paired
 use Rattle.ground_world.specs.Conditions.{Part, Lit, Same, Compares, negated, condition_parts}
 use Rattle.ground_world.specs.Counts.{condition_count, together, sum_or_one, or_one, written_out, part_limit}
 use Rattle.ground_world.specs.Shown.{turned}
-use Rattle.ground_world.proofs.Choices.{numbers-more, choices-by_number}
+use Rattle.ground_world.proofs.Choices.{choices-by_number}
 use Rattle.ground_world.proofs.Weights.{summand}
 use Rattle.ground_world.proofs.Walks.{condition_parts-And, condition_parts-Forall, condition_count-And, condition_count-Forall, condition_count-Not}
+use Rattle.basics.proofs.Lists.{range-more}
 
 -- ---- within the limit
 
@@ -35,10 +36,10 @@ child_within w at cs i c h e l =
 pub negated_within : (w : World) (at : ℕ) (c : CondTree) → condition_count w (tree.Not at c) ≤ part_limit → condition_count w c ≤ part_limit
 negated_within w at c l = let k : condition_count w (tree.Not at c) ≡ condition_count w c = condition_count-Not w at c in omega arith
 
-or_one-least : (n : ℕ) → n ≤ or_one n
+pub or_one-least : (n : ℕ) → n ≤ or_one n
 or_one-least n = grind (arith, nat_tests)
 
-or_one-positive : (n : ℕ) → 0 < or_one n
+pub or_one-positive : (n : ℕ) → 0 < or_one n
 or_one-positive n = grind (arith, nat_tests)
 
 factor-least : (a b : ℕ) → 0 < b → a ≤ a * b
@@ -87,7 +88,7 @@ forall-by_number w env at vars c =
     ∙ flat_map-map (λ os. condition_parts w (env ++ paired (variable_names vars) os) c) (choice_at (columns w vars)) (numbers (choice_count (columns w vars)))
 
 pub more_numbers : (b : Bool) (f : ℕ → List Part) (before ps qs : List Part) (n : ℕ) → ps ≡ before ++ map (turned b) (flat_map f (numbers n)) → qs ≡ ps ++ map (turned b) (f n) → qs ≡ before ++ map (turned b) (flat_map f (numbers (n + 1)))
-more_numbers b f before ps qs n h k = more b f before ps qs (numbers n) n h k ∙ ap (λ l. before ++ map (turned b) (flat_map f l)) (sym (numbers-more n))
+more_numbers b f before ps qs n h k = more b f before ps qs (numbers n) n h k ∙ ap (λ l. before ++ map (turned b) (flat_map f l)) (sym (range-more 0 n))
 
 -- ---- negation
 

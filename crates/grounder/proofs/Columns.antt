@@ -1,21 +1,19 @@
 -- The objects of columns, atoms and fluents are those of the world, and which atoms are bindings of what changes.
-use Rattle.std.proofs.Common.{◌≡◌, ◌⊎◌, inl, inr, ⊎_elim, refl, sym, ap, subst, ◌∙◌, ℕ, Bool, true, false, ◌||◌, nat_le, List, [], ◌∷◌, map, cond, Some}
+use Rattle.std.proofs.Common.{◌≡◌, ◌⊎◌, ⊎_elim, refl, sym, ap, subst, ◌∙◌, ℕ, Bool, true, false, ◌||◌, nat_le, List, [], ◌∷◌, map, cond, Some}
 use Rattle.std.specs.Prelude.{if◌then◌else◌, is_some}
 use Rattle.std.specs.List.{AllByRecursion as Each, flat_map, filter, list_any}
 use Rattle.std.specs.Str.{bytes_eq}
 use Rattle.std.proofs.lemmas.List.{length-map}
 use Rattle.std.proofs.lemmas.List.Folds.{list_any-append}
+use Rattle.std.proofs.lemmas.Bool.{or_cases}
 use Rattle.pddl_names.specs.Declarations.{Text, Signature, among, value_of}
 use Rattle.pddl_names.proofs.Ways.{same_text}
 use Rattle.task_types.specs.WellMade.{is_short, are_below, arguments_fit}
 use Rattle.ground_world.specs.World.{World, GroundAtom, symbol, arguments}
 use Rattle.ground_world.specs.Bindings.{choices}
-use Rattle.grounder.proofs.Each.{each_weaker, each_map, each_flat_map, each_everywhere, any_left, any_right, any_of_each}
+use Rattle.grounder.proofs.Each.{each_weaker, each_map, each_flat_map, each_everywhere, any_of_each}
 use Rattle.grounder.proofs.Choosing.{choices-fit, fitting-are_below}
-
-either_of : (a b : Bool) → (a || b) ≡ true → (a ≡ true) ⊎ (b ≡ true)
-either_of true b h = inl refl
-either_of false b h = inr h
+use Rattle.basics.proofs.Lists.{any_left, any_right}
 
 module _ (w : World) where
   abbrev pub bound_to : ℕ × Signature → List GroundAtom
@@ -35,7 +33,7 @@ module _ (w : World) where
           (λ b s i. ap passes (sym i ∙ sym (ap symbol (same_text a b s))) ∙ t) (bound_to e) (symbol-bound e) k
 
       parts : (list_any (bytes_eq a) (bound_to e) ≡ true) ⊎ (among (flat_map bound_to (filter (λ x. true) es)) a ≡ true)
-      parts = either_of (list_any (bytes_eq a) (bound_to e)) (among (flat_map bound_to (filter (λ x. true) es)) a)
+      parts = or_cases (list_any (bytes_eq a) (bound_to e)) (among (flat_map bound_to (filter (λ x. true) es)) a)
           (sym (list_any-append (bytes_eq a) (bound_to e) (flat_map bound_to (filter (λ x. true) es))) ∙ h)
 
       by : (b : Bool) → passes e.0 ≡ b → (among (flat_map bound_to (filter (λ x. true) es)) a ≡ true → among (flat_map bound_to (filter (λ x. passes x.0) es)) a ≡ true)

@@ -1,10 +1,9 @@
 -- Facts of each element of lists that are made of others.
 use Rattle.std.proofs.Common.{◌≡◌, refl, sym, ap, subst, ◌∙◌, ℕ, suc, ◌+◌, ◌≤◌, arith, Bool, true, false, ◌||◌, nat_lt, List, [], ◌∷◌, ◌++◌, map, cond, length, append_assoc}
 use Rattle.std.specs.List.{AllByRecursion as Each, flat_map, filter, enumerate_from, list_any}
-use Rattle.std.proofs.lemmas.List.Folds.{list_any-append}
-use Rattle.basics.proofs.Bools.{or_left, or_right}
+use Rattle.basics.proofs.Bools.{or_left}
 use Rattle.basics.proofs.Naturals.{lt_in}
-use Rattle.basics.proofs.Lists.{each_append, each_left, each_right}
+use Rattle.basics.proofs.Lists.{each_append, each_left, each_right, any_right}
 
 pub each_weaker : {X : Type 0} (P Q : X → Type 0) → ((x : X) → P x → Q x) → (xs : List X) → Each P xs → Each Q xs
 each_weaker P Q f [] h = tt
@@ -44,12 +43,6 @@ each_everywhere P f [] = tt
 each_everywhere P f (x ∷ xs) = (f x, each_everywhere P f xs)
 
 -- ---- some element
-
-pub any_left : {X : Type 0} (p : X → Bool) (xs ys : List X) → list_any p xs ≡ true → list_any p (xs ++ ys) ≡ true
-any_left p xs ys h = list_any-append p xs ys ∙ or_left (list_any p xs) (list_any p ys) h
-
-pub any_right : {X : Type 0} (p : X → Bool) (xs ys : List X) → list_any p ys ≡ true → list_any p (xs ++ ys) ≡ true
-any_right p xs ys h = list_any-append p xs ys ∙ or_right (list_any p xs) (list_any p ys) h
 
 -- each element is found in the list
 pub each_found : {X : Type 0} (same : X → X → Bool) → ((x : X) → same x x ≡ true) → (before xs : List X) → Each (λ x. list_any (same x) (before ++ xs) ≡ true) xs

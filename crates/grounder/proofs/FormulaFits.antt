@@ -1,7 +1,6 @@
 -- Formulas of the task have facts of the task alone, and no more parts than are counted.
 use Rattle.std.proofs.Common.{◌≡◌, refl, sym, ap, subst, ◌∙◌, ℕ, suc, ◌+◌, ◌*◌, ◌<◌, ◌≤◌, arith, Bool, true, false, ◌&&◌, ◌==◌, nat_lt, List, [], ◌∷◌, ◌++◌, map, length}
 use Rattle.std.specs.List.{AllByRecursion as Each, flat_map, list_all}
-use Rattle.std.proofs.lemmas.Bool.Decides.{nat_tests}
 use Rattle.std.proofs.lemmas.List.{length-map}
 use Rattle.std.proofs.Math.Nat.{mul-le-mul_left}
 use Rattle.basics.proofs.Bools.{and_in}
@@ -22,11 +21,12 @@ use Rattle.ground_world.specs.Bindings.{bindings, choice_count}
 use Rattle.ground_world.specs.Conditions.{side_object}
 use Rattle.ground_world.specs.Counts.{formula_count, together, sum_or_one, or_one, written_out}
 use Rattle.ground_world.proofs.Walks as below
+use Rattle.ground_world.proofs.PartSteps.{or_one-positive, sum-least}
 use Rattle.grounder.specs.Terms.{formula, formula_atoms, same_tree}
 use Rattle.grounder.proofs.Walks as walks
 use Rattle.grounder.proofs.Inductions.{each_formula}
 use Rattle.grounder.proofs.Placing.{number-within}
-use Rattle.grounder.proofs.Sizes.{sum-least, written-least, length-bindings}
+use Rattle.grounder.proofs.Sizes.{written-least, length-bindings}
 
 -- ---- formulas part by part
 
@@ -68,9 +68,6 @@ module _ (task : TaskParts) where
   same-fits false = fits-not fact.True fits-true
 
 -- ---- a formula counts one at least
-
-or_one-positive : (n : ℕ) → 0 < or_one n
-or_one-positive n = grind (arith, nat_tests)
 
 module _ (w : World) where
   abbrev Counts : FactForm → Type 0

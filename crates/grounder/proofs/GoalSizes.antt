@@ -22,13 +22,14 @@ use Rattle.ground_world.specs.Bindings.{bindings, nested_bindings}
 use Rattle.ground_world.specs.Conditions.{Part, Lit, Same, Compares, Test, difference, condition_parts, tests_in, forms_of}
 use Rattle.ground_world.specs.Counts.{condition_count, compare_count, formula_count, soft_count, hard_count, goal_count, somes, together, sum_or_one, written_out, equal_count, around_count, fit_limits}
 use Rattle.ground_world.proofs.Walks as below
+use Rattle.ground_world.proofs.PartSteps.{sum-least}
 use Rattle.grounder.specs.Terms.{PreferencePart, OfFacts, OfNumbers, equal_preference, preference_parts, formulas_in, comparisons_in, goal_parts}
 use Rattle.ground_world.specs.Expressions.{form_or_zero}
 use Rattle.grounder.specs.Instances.{no_unknowns}
 use Rattle.grounder.specs.Task.{Ground, over_fluents, compared, forms_in, goal_forms_in, dynamic_literal, literal_of}
 use Rattle.grounder.proofs.Walks as walks
 use Rattle.grounder.proofs.Inductions.{each_goal, each_preference}
-use Rattle.grounder.proofs.Sizes.{weight, weights, weights-append, weights-written, condition-counted, length-bindings, sum-least}
+use Rattle.grounder.proofs.Sizes.{weight, weights, weights-append, weights-written, condition-counted, length-bindings}
 use Rattle.grounder.proofs.FormulaFits.{formula-counts}
 
 -- ---- the goal without its preferences

@@ -29,10 +29,7 @@ use Rattle.pddl_terms.specs.declared.trees.Group.{Group}
 use Rattle.pddl_terms.specs.declared.trees.Side.{Side}
 use Rattle.pddl_terms.specs.declared.trees.Comparison.{Comparison}
 use Rattle.pddl_terms.specs.declared.trees.Trajectory.{Trajectory}
-
-each_first : {X : Type 0} (P : X → Type 0) (es : List ((t : X) × P t)) → Each P (map (λ e. e.0) es)
-each_first P [] = tt
-each_first P (e ∷ es) = (e.1, each_first P es)
+use Rattle.basics.proofs.Lists.{each_first}
 
 -- expression
 module _ (P : ExprTree → Type 0)

@@ -5,8 +5,9 @@ use Rattle.ground_world.specs.World.{either}
 use Rattle.ground_world.specs.declared.operations.Flaw.{Flaw}
 use Rattle.ground_world.specs.declared.operations.Flaw.TheVariants.{TooWide, ZeroDivisor}
 use Rattle.ground_world.specs.Expressions.{wide_places, zero_divisors}
-use Rattle.ground_world.proofs.Steps.{taken, dropped}
+use Rattle.ground_world.proofs.Steps.{taken}
 use Rattle.grounder.specs.Answer.{least}
+use Rattle.basics.proofs.Lists.{drop_item}
 
 same_some : (a b : ℕ) → a ≡ b → ◌≡◌ {A = Option ℕ} (Some a) (Some b)
 same_some a b e = ap Some e
@@ -55,7 +56,7 @@ module _ (fs : List Flaw) (i : ℕ) (f : Flaw) (lt : i < length fs) (at : f ≡ 
   pub wide-stops : (o : Option ℕ) (p : ℕ) → o ≡ least (wide_places (take i fs)) → f ≡ ZeroDivisor p → o ≡ least (wide_places fs)
   wide-stops o p h e =
       h ∙ ap least (sym (wide-stop (take i fs) p (drop (i + 1) fs))) ∙ ap (λ g. least (wide_places (take i fs ++ (g ∷ drop (i + 1) fs)))) (sym e)
-      ∙ ap (λ gs. least (wide_places (take i fs ++ gs))) (sym (dropped fs i f lt at)) ∙ ap (λ gs. least (wide_places gs)) (take-append-drop i fs)
+      ∙ ap (λ gs. least (wide_places (take i fs ++ gs))) (sym (drop_item fs i f lt at)) ∙ ap (λ gs. least (wide_places gs)) (take-append-drop i fs)
 
   pub zero-more : (o : Option ℕ) (p : ℕ) → o ≡ least (zero_divisors (take i fs)) → f ≡ ZeroDivisor p → ◌≡◌ {A = Option ℕ} (Some (either p (min p) o)) (least (zero_divisors (take (i + 1) fs)))
   zero-more o p h e =

@@ -5,11 +5,11 @@ use Rattle.std.specs.List.{AllByRecursion as Each, filter, list_any, position_or
 use Rattle.std.specs.Str.{bytes_eq}
 use Rattle.basics.proofs.Bools.{or_left, or_right}
 use Rattle.basics.proofs.Naturals.{lt_in}
-use Rattle.basics.proofs.Lists.{each_append}
+use Rattle.basics.proofs.Lists.{each_append, any_left, any_right}
 use Rattle.pddl_names.specs.Declarations.{Text, among, with_new}
 use Rattle.pddl_names.proofs.Ways.{same_text, text_itself}
 use Rattle.ground_world.specs.World.{GroundAtom, number_in}
-use Rattle.grounder.proofs.Each.{any_left, any_right, each_found}
+use Rattle.grounder.proofs.Each.{each_found}
 
 place-within : {X : Type 0} (p : X → Bool) (xs : List X) → list_any p xs ≡ true → position_or_len p xs < length xs
 place-within p [] h = cc

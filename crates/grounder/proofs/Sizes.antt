@@ -2,7 +2,6 @@
 use Rattle.std.proofs.Common.{◌≡◌, refl, ap, ◌∙◌, ℕ, ◌+◌, ◌*◌, ◌≤◌, arith, Bool, true, false, ◌==◌, List, [], ◌∷◌, ◌++◌, map, cond, length, Some, None}
 use Rattle.std.specs.Prelude.{if◌then◌else◌}
 use Rattle.std.specs.List.{AllByRecursion as Each, flat_map, filter}
-use Rattle.std.proofs.lemmas.Bool.Decides.{nat_tests}
 use Rattle.std.proofs.lemmas.List.{length-map}
 use Rattle.std.proofs.lemmas.List.FromFn.{length-range_with_len}
 use Rattle.std.proofs.Math.Nat.{mul-le-mul_left}
@@ -28,6 +27,7 @@ use Rattle.ground_world.specs.Conditions.{Part, Lit, Same, Compares, test, side_
 use Rattle.ground_world.specs.Counts.{condition_count, timed_count, body_count, equal_count, together, sum_or_one, or_one, written_out, compare_count}
 use Rattle.ground_world.proofs.Choices.{choices-by_number}
 use Rattle.ground_world.proofs.Walks as walks
+use Rattle.ground_world.proofs.PartSteps.{sum-least, or_one-least}
 use Rattle.grounder.proofs.Inductions.{each_condition, each_timed_condition}
 
 -- a literal or an equality of terms counts one, a comparison as often as it is a form
@@ -54,13 +54,6 @@ weights-negated [] = refl
 weights-negated (p ∷ ps) =
     let own : weight (negated p) ≡ weight p = weight-negated p in
     let ih : weights (map negated ps) ≡ weights ps = weights-negated ps in omega arith
-
-pub sum-least : (ns : List ℕ) → together ns ≤ sum_or_one ns
-sum-least [] = omega arith
-sum-least (n ∷ ns) = omega arith
-
-pub or_one-least : (n : ℕ) → n ≤ or_one n
-or_one-least n = grind (arith, nat_tests)
 
 -- ---- bindings
 

@@ -1,5 +1,5 @@
 -- The steps of the loops that write what an ended chain gives, for any dictionary.
-use Rattle.std.proofs.Common.{◌≡◌, ℕ, zero, suc, ◌+◌, ◌<◌, ◌≤◌, List, [], ◌∷◌, length, map, take, refl, sym, ap, subst, ◌∙◌, get_or, arith}
+use Rattle.std.proofs.Common.{◌≡◌, ℕ, zero, suc, ◌+◌, ◌<◌, ◌≤◌, List, [], ◌∷◌, length, map, take, refl, sym, ap, subst, ◌∙◌, get_or, arith, add-one}
 use Rattle.rational.specs.Lists.{at}
 use Rattle.std.proofs.lemmas.List.{length-map, get_or-map, get_or_default, take_all}
 use Rattle.rational.specs.Rational.{ℚ, zeroℚ, oneℚ, neg_ℚ}
@@ -11,9 +11,6 @@ use Rattle.lp_tableau.specs.Multipliers.{dual_of, farkas_of}
 use Rattle.lp_tableau.specs.Lookups.{AreLookedUp}
 use Rattle.lp_tableau.proofs.LookedUp.{AreLookedUp-next, AreLookedUp-all, IsPut}
 use Rattle.lp_tableau.proofs.ResultSteps.{Filled}
-
-more : (k : ℕ) → suc k ≡ k + 1
-more k = omega arith
 
 -- one more name's value is written
 filled-next : {S : Type 0} (value : S → ℚ) (start : ℕ) (names : List ℕ) (us : List ℚ) (n k variable : ℕ) (u : ℚ) (old new : List S) → k < length names → length names ≤ length us
@@ -31,7 +28,7 @@ module _ {S : Type 0} (value : S → ℚ) (d : Dictionary) (is : IsDictionary d)
 
   pub point-next : (n i variable : ℕ) (u : ℚ) (old new : List S) → i < length d.rows → variable ≡ get_or d.basic i variable → u ≡ constant_of d i → length new ≡ length old → IsPut value 0 variable u old new
       → Filled value 0 (take i d.basic) constants n old → Filled value 0 (take (i + 1) d.basic) constants n new
-  point-next n i variable u old new h e g s p w = subst (λ (k : ℕ). Filled value 0 (take k d.basic) constants n new) (more i)
+  point-next n i variable u old new h e g s p w = subst (λ (k : ℕ). Filled value 0 (take k d.basic) constants n new) (sym (add-one i))
       (filled-next value 0 d.basic constants n i variable u old new (omega (arith, h, is.even.basic)) (omega (arith, constants-length, is.even.basic))
       (λ k l a b q. is.numbered.basic k l (omega (arith, is.even.basic, a)) (omega (arith, is.even.basic, b)) q)
       (e ∙ get_or_default d.basic i variable 0 (omega (arith, h, is.even.basic)))
@@ -42,7 +39,7 @@ module _ {S : Type 0} (value : S → ℚ) (d : Dictionary) (is : IsDictionary d)
 
   pub dual-next : (n j variable : ℕ) (u : ℚ) (old new : List S) → j < length d.nonbasic → variable ≡ get_or d.nonbasic j variable → u ≡ at d.cost j → length new ≡ length old → IsPut value (length d.nonbasic) variable u old new
       → Filled value (length d.nonbasic) (take j d.nonbasic) d.cost n old → Filled value (length d.nonbasic) (take (j + 1) d.nonbasic) d.cost n new
-  dual-next n j variable u old new h e g s p w = subst (λ (k : ℕ). Filled value (length d.nonbasic) (take k d.nonbasic) d.cost n new) (more j)
+  dual-next n j variable u old new h e g s p w = subst (λ (k : ℕ). Filled value (length d.nonbasic) (take k d.nonbasic) d.cost n new) (sym (add-one j))
       (filled-next value (length d.nonbasic) d.nonbasic d.cost n j variable u old new h (omega (arith, is.even.cost)) is.numbered.nonbasic
       (e ∙ get_or_default d.nonbasic j variable 0 h) g s p w)
 
@@ -73,7 +70,7 @@ module _ {S : Type 0} (value : S → ℚ) (d : Dictionary) (is : IsDictionary d)
 
     pub farkas-next : (n j variable : ℕ) (u entry : ℚ) (old new : List S) → j < length d.nonbasic → variable ≡ get_or d.nonbasic j variable → u ≡ neg_ℚ entry → entry ≡ entry_of d i j → length new ≡ length old → IsPut value (length d.nonbasic) variable u old new
         → Filled value (length d.nonbasic) (basic_of d i ∷ take j d.nonbasic) farkas_numbers n old → Filled value (length d.nonbasic) (basic_of d i ∷ take (j + 1) d.nonbasic) farkas_numbers n new
-    farkas-next n j variable u entry old new h e g q s p w = subst (λ (k : ℕ). Filled value (length d.nonbasic) (basic_of d i ∷ take k d.nonbasic) farkas_numbers n new) (more j)
+    farkas-next n j variable u entry old new h e g q s p w = subst (λ (k : ℕ). Filled value (length d.nonbasic) (basic_of d i ∷ take k d.nonbasic) farkas_numbers n new) (sym (add-one j))
         (filled-next value (length d.nonbasic) farkas_names farkas_numbers n (suc j) variable u old new (omega (arith, h)) (omega (arith, width, length-map (row_of d i) neg_ℚ)) once
         (e ∙ get_or_default d.nonbasic j variable 0 h)
         (g ∙ ap neg_ℚ q ∙ sym (get_or-map neg_ℚ (row_of d i) j zeroℚ zeroℚ (omega (arith, h, width)))) s p w)

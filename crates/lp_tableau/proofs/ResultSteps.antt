@@ -1,5 +1,5 @@
 -- The steps of the loops that write what an ended chain gives.
-use Rattle.std.proofs.Common.{◌≡◌, ℕ, zero, suc, ◌+◌, ◌<◌, ◌≤◌, List, [], ◌∷◌, length, map, take, refl, sym, ap, subst, ◌∙◌, get_or, arith}
+use Rattle.std.proofs.Common.{◌≡◌, ℕ, zero, suc, ◌+◌, ◌<◌, ◌≤◌, List, [], ◌∷◌, length, map, take, refl, sym, ap, subst, ◌∙◌, get_or, arith, add-one}
 use Rattle.rational.specs.Lists.{at}
 use Rattle.std.proofs.lemmas.List.{length-map, get_or-map, get_or_default, take_all}
 use Rattle.rational.specs.Rational.{ℚ, zeroℚ, oneℚ, neg_ℚ}
@@ -12,9 +12,6 @@ use Rattle.lp_tableau.specs.Multipliers.{dual_of, farkas_of}
 use Rattle.lp_tableau.specs.Lookups.{AreLookedUp}
 use Rattle.lp_tableau.specs.Tableaus.{dictionary_of}
 use Rattle.lp_tableau.proofs.LookedUp.{AreLookedUp-next, AreLookedUp-all, IsPut}
-
-more : (k : ℕ) → suc k ≡ k + 1
-more k = omega arith
 
 module _ {S : Type 0} (value : S → ℚ) where
   -- the values of the first k names are written
@@ -42,7 +39,7 @@ module _ {S : Type 0} (value : S → ℚ) where
 
     pub point-next : (n i variable : ℕ) (u : ℚ) (old new : List S) → i < length t.rows.items → variable ≡ get_or t.basic.items i variable → u ≡ constant_of (dictionary_of value t) i → length new ≡ length old → IsPut value 0 variable u old new
         → Filled 0 (take i t.basic.items) constants n old → Filled 0 (take (i + 1) t.basic.items) constants n new
-    point-next n i variable u old new h e g s p w = subst (λ (k : ℕ). Filled 0 (take k t.basic.items) constants n new) (more i)
+    point-next n i variable u old new h e g s p w = subst (λ (k : ℕ). Filled 0 (take k t.basic.items) constants n new) (sym (add-one i))
         (filled-next 0 t.basic.items constants n i variable u old new (omega (arith, h, is.even.basic, rows_length)) (omega (arith, constants-length, is.even.basic, rows_length))
         (λ k l a b q. is.numbered.basic k l (omega (arith, is.even.basic, a)) (omega (arith, is.even.basic, b)) q)
         (e ∙ get_or_default t.basic.items i variable 0 (omega (arith, h, is.even.basic, rows_length)))
@@ -53,7 +50,7 @@ module _ {S : Type 0} (value : S → ℚ) where
 
     pub dual-next : (start n j variable : ℕ) (u : ℚ) (old new : List S) → j < length t.nonbasic.items → variable ≡ get_or t.nonbasic.items j variable → u ≡ at (map value t.cost.items) j → length new ≡ length old → IsPut value start variable u old new
         → Filled start (take j t.nonbasic.items) (map value t.cost.items) n old → Filled start (take (j + 1) t.nonbasic.items) (map value t.cost.items) n new
-    dual-next start n j variable u old new h e g s p w = subst (λ (k : ℕ). Filled start (take k t.nonbasic.items) (map value t.cost.items) n new) (more j)
+    dual-next start n j variable u old new h e g s p w = subst (λ (k : ℕ). Filled start (take k t.nonbasic.items) (map value t.cost.items) n new) (sym (add-one j))
         (filled-next start t.nonbasic.items (map value t.cost.items) n j variable u old new h (omega (arith, is.even.cost)) is.numbered.nonbasic
         (e ∙ get_or_default t.nonbasic.items j variable 0 h) g s p w)
 
@@ -84,7 +81,7 @@ module _ {S : Type 0} (value : S → ℚ) where
 
       pub farkas-next : (start n j variable : ℕ) (u entry : ℚ) (old new : List S) → j < length t.nonbasic.items → variable ≡ get_or t.nonbasic.items j variable → u ≡ neg_ℚ entry → entry ≡ entry_of (dictionary_of value t) i j → length new ≡ length old → IsPut value start variable u old new
           → Filled start (basic_of (dictionary_of value t) i ∷ take j t.nonbasic.items) farkas_numbers n old → Filled start (basic_of (dictionary_of value t) i ∷ take (j + 1) t.nonbasic.items) farkas_numbers n new
-      farkas-next start n j variable u entry old new h e g q s p w = subst (λ (k : ℕ). Filled start (basic_of (dictionary_of value t) i ∷ take k t.nonbasic.items) farkas_numbers n new) (more j)
+      farkas-next start n j variable u entry old new h e g q s p w = subst (λ (k : ℕ). Filled start (basic_of (dictionary_of value t) i ∷ take k t.nonbasic.items) farkas_numbers n new) (sym (add-one j))
           (filled-next start farkas_names farkas_numbers n (suc j) variable u old new (omega (arith, h)) (omega (arith, width, length-map (row_of (dictionary_of value t) i) neg_ℚ)) once
           (e ∙ get_or_default t.nonbasic.items j variable 0 h)
           (g ∙ ap neg_ℚ q ∙ sym (get_or-map neg_ℚ (row_of (dictionary_of value t) i) j zeroℚ zeroℚ (omega (arith, h, width)))) s p w)

@@ -24,11 +24,11 @@ use Rattle.timed_meaning.proofs.Amounts.{append-in}
 use Rattle.metric_cost.specs.Answers.{Amounts}
 use Rattle.metric_cost.specs.Terms.{IsWeighed, term_reckoned, terms_reckoned, base_of, base_reckoned}
 
-left : (rs ss : List Reckoning) → Defined (rs ++ ss) → Defined rs
-left rs ss d = each_left (IsDefined wide_limit) rs ss d
+pub defined_left : (rs ss : List Reckoning) → Defined (rs ++ ss) → Defined rs
+defined_left rs ss d = each_left (IsDefined wide_limit) rs ss d
 
-right : (rs ss : List Reckoning) → Defined (rs ++ ss) → Defined ss
-right rs ss d = each_right (IsDefined wide_limit) rs ss d
+pub defined_right : (rs ss : List Reckoning) → Defined (rs ++ ss) → Defined ss
+defined_right rs ss d = each_right (IsDefined wide_limit) rs ss d
 
 module _ (xs : Trace) (last : State) where
   abbrev C : Soft → ℚ
@@ -40,20 +40,20 @@ module _ (xs : Trace) (last : State) where
   together : (q : ℚ) (ss : List Soft) → Defined (flat_map R ss) → Defined (sums q (map C ss)) → Defined (terms_reckoned q ss xs last)
   together q [] d e = tt
   together q (s ∷ ss) d e = append-in (term_reckoned q s xs last) (terms_reckoned (q +ℚ C s) ss xs last)
-      (append-in (R s) (Sum q (C s) ∷ []) (left (R s) (flat_map R ss) d) (e.0, tt))
-      (together (q +ℚ C s) ss (right (R s) (flat_map R ss) d) e.1)
+      (append-in (R s) (Sum q (C s) ∷ []) (defined_left (R s) (flat_map R ss) d) (e.0, tt))
+      (together (q +ℚ C s) ss (defined_right (R s) (flat_map R ss) d) e.1)
 
   terms-left : (q : ℚ) (ss : List Soft) → Defined (terms_reckoned q ss xs last) → Defined (flat_map R ss)
   terms-left q [] d = tt
   terms-left q (s ∷ ss) d = append-in (R s) (flat_map R ss)
-      (left (R s) (Sum q (C s) ∷ []) (left (term_reckoned q s xs last) (terms_reckoned (q +ℚ C s) ss xs last) d))
-      (terms-left (q +ℚ C s) ss (right (term_reckoned q s xs last) (terms_reckoned (q +ℚ C s) ss xs last) d))
+      (defined_left (R s) (Sum q (C s) ∷ []) (defined_left (term_reckoned q s xs last) (terms_reckoned (q +ℚ C s) ss xs last) d))
+      (terms-left (q +ℚ C s) ss (defined_right (term_reckoned q s xs last) (terms_reckoned (q +ℚ C s) ss xs last) d))
 
   terms-right : (q : ℚ) (ss : List Soft) → Defined (terms_reckoned q ss xs last) → Defined (sums q (map C ss))
   terms-right q [] d = tt
   terms-right q (s ∷ ss) d = (
-    (right (R s) (Sum q (C s) ∷ []) (left (term_reckoned q s xs last) (terms_reckoned (q +ℚ C s) ss xs last) d)).0,
-    terms-right (q +ℚ C s) ss (right (term_reckoned q s xs last) (terms_reckoned (q +ℚ C s) ss xs last) d),
+    (defined_right (R s) (Sum q (C s) ∷ []) (defined_left (term_reckoned q s xs last) (terms_reckoned (q +ℚ C s) ss xs last) d)).0,
+    terms-right (q +ℚ C s) ss (defined_right (term_reckoned q s xs last) (terms_reckoned (q +ℚ C s) ss xs last) d),
   )
 
   -- some terms are added, and the rest is left
@@ -68,7 +68,7 @@ module _ (xs : Trace) (last : State) where
   step : (start now more : ℚ) (all : List Soft) (s : Soft) (rest : List Soft) → Defined (term_reckoned now s xs last) → more ≡ now +ℚ C s → GoesOn start all now (s ∷ rest) → GoesOn start all more rest
   step start now more all s rest d e g = record {
     value = g.value ∙ ap (λ q. fold (λ q r. q +ℚ r) q (map C rest)) (sym e);
-    onward = λ h. subst (λ q. Defined (terms_reckoned q rest xs last)) (sym e) (right (term_reckoned now s xs last) (terms_reckoned (now +ℚ C s) rest xs last) (g.onward h));
+    onward = λ h. subst (λ q. Defined (terms_reckoned q rest xs last)) (sym e) (defined_right (term_reckoned now s xs last) (terms_reckoned (now +ℚ C s) rest xs last) (g.onward h));
     back = λ h. g.back (append-in (term_reckoned now s xs last) (terms_reckoned (now +ℚ C s) rest xs last) d (subst (λ q. Defined (terms_reckoned q rest xs last)) e h));
   }
 
@@ -78,7 +78,7 @@ module _ (xs : Trace) (last : State) where
       (subst (λ (rest : List Soft). GoesOn start all now rest) (drop_more all i s h ∙ ap (λ r. r ∷ drop (i + 1) all) (sym e)) g)
 
   pub goes_on-stop : (start now : ℚ) (all : List Soft) (i : ℕ) (s : Soft) → i < length all → s ≡ slice_index_or all i s → ¬ (Defined (term_reckoned now s xs last)) → GoesOn start all now (drop i all) → ¬ (Defined (terms_reckoned start all xs last))
-  goes_on-stop start now all i s h e n g = λ d. n (left (term_reckoned now s xs last) (terms_reckoned (now +ℚ C s) (drop (i + 1) all) xs last)
+  goes_on-stop start now all i s h e n g = λ d. n (defined_left (term_reckoned now s xs last) (terms_reckoned (now +ℚ C s) (drop (i + 1) all) xs last)
       (subst (λ (rest : List Soft). Defined (terms_reckoned now rest xs last)) (drop_more all i s h ∙ ap (λ r. r ∷ drop (i + 1) all) (sym e)) (g.onward d)))
 
   pub goes_on-end : (start now : ℚ) (all : List Soft) → GoesOn start all now [] → Defined (terms_reckoned start all xs last) × (now ≡ fold (λ q r. q +ℚ r) start (map C all))
@@ -113,10 +113,10 @@ module _ (task : TaskParts) (plan : Plan) where
   after = sums task.metric.constant ((task.metric.last *ℚ total_time plan) ∷ value task.metric.fluents last.fluents ∷ costs)
 
   pub reckoned-base : Defined (cost_reckoned task plan) → Defined (base_reckoned task.metric (total_time plan) last.fluents)
-  reckoned-base d = let f = left front after d in let a = right front after d in (f.0, (a.0, (f.1.0, (a.1.0, tt))))
+  reckoned-base d = let f = defined_left front after d in let a = defined_right front after d in (f.0, (a.0, (f.1.0, (a.1.0, tt))))
 
   pub reckoned-terms : Defined (cost_reckoned task plan) → Defined (terms_reckoned base task.soft xs last)
-  reckoned-terms d = together xs last base task.soft (left front after d).1.1 (right front after d).1.1
+  reckoned-terms d = together xs last base task.soft (defined_left front after d).1.1 (defined_right front after d).1.1
 
   cost-is : fold (λ q r. q +ℚ r) base costs ≡ cost task plan
   unfolding cost
@@ -156,15 +156,15 @@ weighed-told weight v rs (Ok q) result a w = go result w
   where
     go : (r : Result ℚ Wide) → Amounts r (Product weight q ∷ []) (λ r. r ≡ weight *ℚ q) → Amounts r (rs ++ Product weight v ∷ []) (λ q. q ≡ weight *ℚ v)
     go (Ok r) h = (append-in rs (Product weight v ∷ []) a.0 (subst (λ x. Defined (Product weight x ∷ [])) a.1 h.0), h.1 ∙ ap (λ x. weight *ℚ x) a.1)
-    go (Err e) h = λ all. h (subst (λ x. Defined (Product weight x ∷ [])) (sym a.1) (right rs (Product weight v ∷ []) all))
-weighed-told weight v rs (Err e) result a w = subst (λ (r : Result ℚ Wide). Amounts r (rs ++ Product weight v ∷ []) (λ q. q ≡ weight *ℚ v)) (sym w) (λ all. a (left rs (Product weight v ∷ []) all))
+    go (Err e) h = λ all. h (subst (λ x. Defined (Product weight x ∷ [])) (sym a.1) (defined_right rs (Product weight v ∷ []) all))
+weighed-told weight v rs (Err e) result a w = subst (λ (r : Result ℚ Wide). Amounts r (rs ++ Product weight v ∷ []) (λ q. q ≡ weight *ℚ v)) (sym w) (λ all. a (defined_left rs (Product weight v ∷ []) all))
 
 pub term-told : (q cost v : ℚ) (rs : List Reckoning) (r : Result ℚ Wide) → Defined rs → cost ≡ v → Reckons (λ (q : ℚ). q) r (CanAdd wide_limit q cost) (q +ℚ cost) → Amounts r (rs ++ Sum q v ∷ []) (λ x. x ≡ q +ℚ v)
 term-told q cost v rs (Ok x) d e h = (append-in rs (Sum q v ∷ []) d (subst (λ y. Defined (Sum q y ∷ [])) e (h.0, tt)), h.1 ∙ ap (λ y. q +ℚ y) e)
-term-told q cost v rs (Err w) d e h = λ all. h (subst (λ y. CanAdd wide_limit q y) (sym e) (right rs (Sum q v ∷ []) all).0)
+term-told q cost v rs (Err w) d e h = λ all. h (subst (λ y. CanAdd wide_limit q y) (sym e) (defined_right rs (Sum q v ∷ []) all).0)
 
 pub term-stopped : (q v : ℚ) (rs : List Reckoning) → ¬ (Defined rs) → ¬ (Defined (rs ++ Sum q v ∷ []))
-term-stopped q v rs n = λ all. n (left rs (Sum q v ∷ []) all)
+term-stopped q v rs n = λ all. n (defined_left rs (Sum q v ∷ []) all)
 
 -- ---- the whole cost from its parts
 module _ (task : TaskParts) (plan : Plan) (m : Metric) (total_is : ℚ) (now : State) (e : m ≡ task.metric) (f : total_is ≡ total_time plan) (g : now ≡ last_state task plan) where

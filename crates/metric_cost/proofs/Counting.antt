@@ -1,21 +1,19 @@
 -- A plan that was built for a task has few happenings, and its soft terms can be reckoned in the lists of its states.
-use Rattle.std.proofs.Common.{◌≡◌, refl, sym, ap, subst, ◌∙◌, ℕ, suc, ◌+◌, ◌*◌, ◌<◌, ◌≤◌, ◌^◌, Bool, true, ◌&&◌, List, [], ◌∷◌, ◌++◌, length, map, arith, length-append, Some, None}
-use Rattle.std.specs.Prelude.{nat_lt, IsTrue, Option}
+use Rattle.std.proofs.Common.{◌≡◌, refl, sym, ap, subst, ◌∙◌, ℕ, ◌+◌, ◌*◌, ◌<◌, ◌≤◌, ◌^◌, Bool, true, ◌&&◌, List, [], ◌∷◌, ◌++◌, length, map, arith, length-append, Some, None}
+use Rattle.std.specs.Prelude.{IsTrue, Option}
 use Rattle.std.specs.List.{AllByRecursion, list_all, flat_map}
 use Rattle.std.proofs.lemmas.List.{length-map}
-use Rattle.std.specs.declared.cmp.Ordering.{Ordering}
-use Rattle.std.specs.declared.cmp.Ordering.TheVariants.{Less, Equal, Greater}
 use Rattle.std.proofs.lemmas.List.Elements.{All-nil}
 use Rattle.basics.proofs.Bools.{and_left, and_right}
-use Rattle.basics.proofs.Naturals.{le_out, lt_out}
+use Rattle.basics.proofs.Naturals.{le_out}
 use Rattle.basics.proofs.Lists.{all_out}
-use Rattle.rational.specs.Rational.{ℚ, zeroℚ, cmp_ℚ}
+use Rattle.rational.specs.Rational.{ℚ, zeroℚ}
 use Rattle.exact_lin.specs.Forms.{LinearForm, Covers}
 use Rattle.task_types.specs.declared.costs.Soft.{Soft}
 use Rattle.task_types.specs.declared.costs.Soft.TheVariants as soft
 use Rattle.task_types.specs.declared.parts.TaskParts.{TaskParts}
 use Rattle.task_types.specs.declared.plans.PlanLine.{PlanLine}
-use Rattle.task_types.specs.Plan.{Plan, Step, beside, in_place, ascending, end_step, line_steps, plan_steps, timed_steps, steps, happenings, action_of}
+use Rattle.task_types.specs.Plan.{Plan, Step, end_step, line_steps, plan_steps, timed_steps, steps, happenings, action_of}
 use Rattle.task_types.specs.Course.{count}
 use Rattle.task_types.specs.Touch.{soft_facts}
 use Rattle.task_types.specs.WellMade.{IsWellMade, form_fits, soft_fits, is_short}
@@ -23,20 +21,10 @@ use Rattle.trajectory.specs.Facts.{AreCovered}
 use Rattle.trajectory.proofs.Covering.{tasks_are_covered}
 use Rattle.timed_meaning.specs.TimedPlans.{IsBuiltFor}
 use Rattle.metric_cost.specs.Terms.{CanReckon}
+use Rattle.timed_meaning.proofs.Happening.{covers-out}
+use Rattle.timed_meaning.proofs.Listed.{length-beside, length-in_place, length-ascending}
 
 -- ---- how many happenings
-beside-short : (o : Ordering) (t u : ℚ) (us rest : List ℚ) → length rest ≤ suc (length us) → length (beside o t u us rest) ≤ suc (suc (length us))
-beside-short Less t u us rest h = omega arith
-beside-short Equal t u us rest h = omega arith
-beside-short Greater t u us rest h = omega (arith, h)
-
-in_place-short : (t : ℚ) (us : List ℚ) → length (in_place t us) ≤ suc (length us)
-in_place-short t [] = omega arith
-in_place-short t (u ∷ us) = beside-short (cmp_ℚ t u) t u us (in_place t us) (in_place-short t us)
-
-ascending-short : (ts : List ℚ) → length (ascending ts) ≤ length ts
-ascending-short [] = omega arith
-ascending-short (t ∷ ts) = omega (arith, in_place-short t (ascending ts), ascending-short ts)
 
 end-short : (l : PlanLine) (o : Option ℕ) → length (end_step l o) ≤ 1
 end-short l None = omega arith
@@ -56,7 +44,7 @@ pub few_happenings : (task : TaskParts) (plan : Plan) → IsWellMade task → Is
 unfolding happenings
 few_happenings task plan w b = omega (
   arith,
-  ascending-short (map (λ (s : Step). s.time) (steps task plan)),
+  length-ascending (map (λ (s : Step). s.time) (steps task plan)),
   length-map (steps task plan) (λ (s : Step). s.time),
   length-append (plan_steps task plan) (timed_steps task),
   length-map task.timed moment_step,
@@ -66,9 +54,6 @@ few_happenings task plan w b = omega (
 )
 
 -- ---- what soft terms read
-covers-out : (n : ℕ) (ts : List (ℕ × ℚ)) → list_all (λ x. nat_lt x n) (map (λ t. t.0) ts) ≡ true → Covers n ts
-covers-out n [] e = tt
-covers-out n (t ∷ ts) e = (lt_out t.0 n (and_left _ _ e), covers-out n ts (and_right _ _ e))
 
 pub form-covers : (task : TaskParts) (form : LinearForm) (n : ℕ) → n ≡ length task.fluents → IsTrue (form_fits task form) → Covers n form.terms
 form-covers task form n e h = subst (λ (k : ℕ). Covers k form.terms) (sym e) (covers-out (length task.fluents) form.terms (and_right _ _ h))

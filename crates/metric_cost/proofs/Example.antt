@@ -5,14 +5,11 @@ use Rattle.rational.specs.Rational.{ratio, whole, cmp_ℚ}
 use Rattle.task_types.specs.declared.formulas.FactTree.{FactTree, fold-FactTree, fold-roll-FactTree}
 use Rattle.task_types.specs.declared.formulas.FactTree.TheOpen.{FactTree-F}
 use Rattle.task_types.specs.declared.formulas.FactTree.TheVariants as tree
-use Rattle.task_types.specs.declared.formulas.FactTree.TheVariants.{rolls-True, rolls-Or}
+use Rattle.task_types.specs.declared.formulas.FactTree.TheVariants.{rolls-Or}
 use Rattle.task_types.specs.declared.parts.TaskParts.{TaskParts}
 use Rattle.task_types.specs.WellMade.{IsWellMade, parts_fit, tree_fits}
 use Rattle.metric_cost.specs.ExampleTask.{going}
-
-tree_fits-true : (task : TaskParts) → tree_fits task tree.True ≡ true
-unfolding tree_fits
-tree_fits-true task = ap (λ t. fold-FactTree Bool (parts_fit (length task.facts)) t) (sym rolls-True) ∙ fold-roll-FactTree Bool (parts_fit (length task.facts)) FactTree-F.True
+use Rattle.task_types.proofs.Formulas.{tree_fits-true}
 
 tree_fits-or : (task : TaskParts) → tree_fits task (tree.Or []) ≡ true
 unfolding tree_fits

@@ -17,6 +17,7 @@ use Rattle.task_types.proofs.Sayings.{constraints_along}
 use Rattle.trajectory.specs.declared.automaton.TrailEnd.{TrailEnd}
 use Rattle.trajectory.specs.declared.automaton.TrailEnd.TheVariants.{Met, Broken, Timed}
 use Rattle.trajectory.specs.Verdicts.{verdict_by, verdict_on}
+use Rattle.basics.proofs.Bools.{or_false}
 
 -- ---- a `within`
 within-along : (c : Trail) (xs : Trace) → c.kind ≡ Within → met c xs ≡ list_any (λ (m : Moment). tree_holds c.first m.facts && (m.time ≤? c.moment)) xs
@@ -24,10 +25,6 @@ within-along c xs e = constraints_along.along c xs ∙ ap (λ kind. kept_along k
 
 pub met-none : (c : Trail) → c.kind ≡ Within → false ≡ met c []
 met-none c e = sym (within-along c [] e)
-
-or_false : (b : Bool) → (b || false) ≡ b
-or_false true = refl
-or_false false = refl
 
 met-more : (c : Trail) (xs : Trace) (m : Moment) → c.kind ≡ Within → met c (xs ++ m ∷ []) ≡ (met c xs || (tree_holds c.first m.facts && (m.time ≤? c.moment)))
 met-more c xs m e = within-along c (xs ++ m ∷ []) e

@@ -10,7 +10,7 @@ use Rattle.rational.proofs.Order.{lt_le}
 use Rattle.rational.proofs.Inequalities.{le_refl, le_trans}
 use Rattle.basics.proofs.Bools.{and_left, and_right, and_in, or_left, or_right}
 use Rattle.basics.proofs.Naturals.{same_itself}
-use Rattle.basics.proofs.Lists.{all_append, all_out, all_in, each_append, each_at}
+use Rattle.basics.proofs.Lists.{all_append, all_out, all_in, each_append, each_at, each_map}
 use Rattle.task_types.specs.declared.actions.SnapKind.TheVariants.{Start, End}
 use Rattle.task_types.specs.declared.constraints.Trail.{Trail}
 use Rattle.task_types.specs.declared.constraints.TrailKind.{TrailKind}
@@ -37,18 +37,19 @@ use Rattle.task_types.proofs.Comparisons.{lt_out, le_out, le_in}
 use Rattle.task_types.proofs.Everyone.{all_both, all_tabulate}
 use Rattle.task_types.proofs.Happenings.{Among, among, contained, happenings-times}
 use Rattle.task_types.proofs.Sayings.{kept-along, constraints_along}
+use Rattle.task_types.proofs.Unordered.{every_reordered}
 use Rattle.ordering.specs.Along.{carried, AreInOrder}
 use Rattle.ordering.specs.Laws.{Tells}
 use Rattle.ordered_course.specs.Lines.{started_on, steps_listed, steps_of}
 use Rattle.ordered_course.proofs.BlockedSteps.{MayHappen, steps_may, own_literals, IsAt, over_all_literals, each_among, goal_literals}
 use Rattle.ordered_course.proofs.Groups.{IsGrouped, all_grouped, alters, alters_not, alters_apart}
 use Rattle.ordered_course.proofs.Listed.{Closes}
-use Rattle.ordered_course.proofs.ListFacts.{facts_listed, all_reordered}
+use Rattle.ordered_course.proofs.ListFacts.{facts_listed}
 use Rattle.ordered_course.proofs.Owned.{are_owned}
 use Rattle.ordered_course.proofs.Passing.{passes, none_fails, all_of_range, all_of_each, literals_pass, numbered_pass, parted_at}
 use Rattle.ordered_course.proofs.RunningLines.{Has, Both, has_of_map, has_both, IsStep, Runs, running_on, Line, running_line}
 use Rattle.ordered_course.proofs.Telling.{Placed, placed_so, have_actions, timed_kinds, numbers_timed, closes_all, steps_in_order, tells}
-use Rattle.ordered_course.proofs.TraceWalks.{all_in_map, kept_alike}
+use Rattle.ordered_course.proofs.TraceWalks.{kept_alike}
 
 -- ---- the steps of a list, and their pairs
 
@@ -104,7 +105,7 @@ module _ (task : TaskParts) (rules : Rules) (plan : Plan) where
   moments_late t (u ∷ us) z h = let l = le_trans zeroℚ t u.0 z (lt_le t u.0 (lt_out t u.0 (and_left (t <? u.0) (moments_ascend u.0 us) h))) in (l, moments_late u.0 us l (and_right (t <? u.0) (moments_ascend u.0 us) h))
 
   happenings_late : AllByRecursion (λ x. zeroℚ ≤ℚ x.time) (steps task plan) → AllByRecursion (λ t. zeroℚ ≤ℚ t) (happenings task plan)
-  happenings_late a = go (happenings task plan) (λ t m. each_among (λ t. zeroℚ ≤ℚ t) (map (λ s. s.time) (steps task plan)) t (all_in_map (λ t. zeroℚ ≤ℚ t) (λ s. s.time) (steps task plan) a)
+  happenings_late a = go (happenings task plan) (λ t m. each_among (λ t. zeroℚ ≤ℚ t) (map (λ s. s.time) (steps task plan)) t (each_map (λ t. zeroℚ ≤ℚ t) (λ s. s.time) (steps task plan) a)
       (among t (map (λ s. s.time) (steps task plan)) ((happenings-times task plan).no_other t (contained t (happenings task plan) m))))
     where
       go : (ts : List ℚ) → ((t : ℚ) → Among t ts → zeroℚ ≤ℚ t) → AllByRecursion (λ t. zeroℚ ≤ℚ t) ts
@@ -119,7 +120,7 @@ module _ (task : TaskParts) (rules : Rules) (plan : Plan) where
   trace_late : list_all (is_in_time rules) plan ≡ true → moments_ascend zeroℚ task.timed ≡ true → AllByRecursion (λ m. zeroℚ ≤ℚ m.time) (trace task plan)
   trace_late h k = (
     le_refl zeroℚ,
-    all_in_map (λ m. zeroℚ ≤ℚ m.time) (λ k. record { facts = (state_after task plan k).facts; time = time_of task plan k }) (numbers (count task plan))
+    each_map (λ m. zeroℚ ≤ℚ m.time) (λ k. record { facts = (state_after task plan k).facts; time = time_of task plan k }) (numbers (count task plan))
         (all_tabulate (λ n. zeroℚ ≤ℚ time_of task plan n) (numbers (count task plan)) (λ n. at_place (happenings task plan) n
         (happenings_late (each_append (λ x. zeroℚ ≤ℚ x.time) (plan_steps task plan) (timed_steps task) (lines_late plan h) (moments_late zeroℚ task.timed (le_refl zeroℚ) k))))),
   )
@@ -148,7 +149,7 @@ module _ (task : TaskParts) (rules : Rules) (o : Order) (times : List ℚ) (w : 
   order = steps_in_order task rules o times w v.ordering placed positive
 
   may : AllByRecursion (MayHappen task (plan_of task o times)) (steps_of task o times)
-  may = all_reordered (MayHappen task (plan_of task o times)) (steps task (plan_of task o times)) (steps_of task o times) told.same
+  may = every_reordered (MayHappen task (plan_of task o times)) (steps task (plan_of task o times)) (steps_of task o times) told.same
       (steps_may task (plan_of task o times) fits v.valid.starts v.valid.ends (timed_kinds task task.timed (snap_total task.actions) (numbers_timed task rules o times w v.ordering placed)))
 
   snaps_are : map (λ x. x.snap) (steps_of task o times) ≡ o.steps

@@ -27,10 +27,11 @@ use Rattle.task_types.proofs.ByNumber.{after-number}
 use Rattle.task_types.proofs.Comparisons.{lt_le_absurd}
 use Rattle.task_types.proofs.Everyone.{all_map}
 use Rattle.task_types.proofs.Happenings.{Among, among, contained, happenings-times}
+use Rattle.task_types.proofs.Unordered.{every_reordered}
 use Rattle.ordering.specs.Along.{at_time, carried, changes_fact, Follows, AreInOrder}
 use Rattle.ordering.specs.Laws.{Tells}
 use Rattle.ordered_course.proofs.Lasting.{start_end_tied}
-use Rattle.ordered_course.proofs.ListFacts.{Known, literals_hold, across, second_part, all_reordered, unless, changed_then_seen, seen_then_changed, changed_twice, looks_itself, looks_over_all}
+use Rattle.ordered_course.proofs.ListFacts.{Known, literals_hold, across, second_part, unless, changed_then_seen, seen_then_changed, changed_twice, looks_itself, looks_over_all}
 use Rattle.ordered_course.proofs.RunningLines.{Has, Both, has_both}
 use Rattle.ordered_course.proofs.Squeezing.{Between, squeezed}
 use Rattle.ordered_course.proofs.States.{fluent_after, fact_before, fact_after}
@@ -188,12 +189,12 @@ module _ (task : TaskParts) (plan : Plan) (ss : List Step) (tells : Tells task p
 
       go : (ts : List ℚ) → happenings task plan ≡ ts → ((ss ≡ []) × (initial task ≡ state task plan (length (happenings task plan)))) ⊎ IsLast task plan ss
       go [] e = inl (
-        no_steps ss (all_reordered (λ x. ⊥) (steps task plan) ss tells.same (each_happens (λ t. ⊥) task plan (subst (AllByRecursion (λ t. ⊥)) (sym e) tt))),
+        no_steps ss (every_reordered (λ x. ⊥) (steps task plan) ss tells.same (each_happens (λ t. ⊥) task plan (subst (AllByRecursion (λ t. ⊥)) (sym e) tt))),
         sym (ap (λ (hs : List ℚ). state task plan (length hs)) e),
       )
       go (t ∷ ts) e = inr (record {
         time = time_of task plan (length ts);
-        late = all_reordered (λ x. x.time ≤ℚ time_of task plan (length ts)) (steps task plan) ss tells.same
+        late = every_reordered (λ x. x.time ≤ℚ time_of task plan (length ts)) (steps task plan) ss tells.same
             (each_happens (λ u. u ≤ℚ time_of task plan (length ts)) task plan (subst (λ (hs : List ℚ). AllByRecursion (λ u. u ≤ℚ slice_index_or hs (length ts) zeroℚ) hs) (sym e) (last_greatest t ts (subst Ascends e (happenings-times task plan).ascends))));
         state = after-number task plan (length ts) (subst (λ (hs : List ℚ). length ts < length hs) (sym e) (below (length ts))) ∙ sym (ap (λ (hs : List ℚ). state task plan (length hs)) e);
       })

@@ -16,6 +16,7 @@ use Rattle.task_types.specs.Touch.{tokens, trail_facts, soft_facts}
 use Rattle.task_types.specs.Order.{sets_apart}
 use Rattle.task_types.specs.WellMade.{snap_fits}
 use Rattle.task_types.proofs.Everyone.{all_map, all_swap}
+use Rattle.task_types.proofs.Assigning.{meet_in}
 use Rattle.ordering.specs.Along.{changes_fact, tied_apart}
 use Rattle.ordered_course.proofs.Lasting.{any_last}
 use Rattle.ordered_course.proofs.ListFacts.{true_and_false, changed_twice}
@@ -33,14 +34,6 @@ meet_out (x ∷ xs) ys h = go (is_in x ys) refl h (meet_out xs ys)
     go : (b : Bool) → is_in x ys ≡ b → (b || meet xs ys) ≡ true → (meet xs ys ≡ true → Common xs ys) → Common (x ∷ xs) ys
     go true e h r = record { number = x; first = or_left (x == x) (is_in x xs) (same_itself x); second = e }
     go false e h r = let k = r h in record { number = k.number; first = or_right (x == k.number) (is_in k.number xs) k.first; second = k.second }
-
-pub meet_in : (f : ℕ) (xs ys : List ℕ) → is_in f xs ≡ true → is_in f ys ≡ true → meet xs ys ≡ true
-meet_in f [] ys h k = h
-meet_in f (x ∷ xs) ys h k = go (x == f) refl h (λ e. meet_in f xs ys e k)
-  where
-    go : (b : Bool) → (x == f) ≡ b → (b || is_in f xs) ≡ true → (is_in f xs ≡ true → meet xs ys ≡ true) → (is_in x ys || meet xs ys) ≡ true
-    go true e h r = or_left (is_in x ys) (meet xs ys) (subst (λ z. is_in z ys ≡ true) (sym (same_out x f e)) k)
-    go false e h r = or_right (is_in x ys) (meet xs ys) (r h)
 
 any_at : (q : ℕ → Bool) (f : ℕ) (xs : List ℕ) → is_in f xs ≡ true → q f ≡ true → list_any q xs ≡ true
 any_at q f [] i h = i

@@ -4,9 +4,6 @@ use Rattle.std.specs.Prelude.{fold, if◌then◌else◌}
 use Rattle.std.specs.List.{list_any, list_all, flat_map, AllByRecursion}
 use Rattle.std.proofs.Math.Path.{fun_ext}
 use Rattle.std.proofs.lemmas.List.Folds.{list_any-append}
-use Rattle.std.proofs.lemmas.List.Elements.{All-from_recursion, recursion_from_All}
-use Rattle.std.proofs.lemmas.List.Sorted.{All-permutation}
-use Rattle.std.specs.Prelude.{IsPermutation}
 use Rattle.basics.proofs.Bools.{and_left, and_right, and_in, or_left, or_right, or_false}
 use Rattle.basics.proofs.Naturals.{same_itself}
 use Rattle.basics.proofs.Lists.{each_right}
@@ -27,6 +24,7 @@ use Rattle.task_types.specs.Blocking.{facts_on, facts_after}
 use Rattle.task_types.specs.WellMade.{snap_fits}
 use Rattle.task_types.proofs.Assigning.{is_in-left}
 use Rattle.task_types.proofs.SetApart.{in_right}
+use Rattle.task_types.proofs.Unordered.{every_reordered}
 use Rattle.ordering.specs.Along.{Carried, at_first, carry, carry_all, carried, changes_fact, tied_apart, Follows, AreInOrder}
 use Rattle.ordering.proofs.Tied.{fact_token, fact_below}
 
@@ -71,10 +69,6 @@ across task (x ∷ xs) ys h = (each_right (Follows task x) xs ys h.0, across tas
 pub second_part : (task : TaskParts) (xs ys : List Step) → AreInOrder task (xs ++ ys) → AreInOrder task ys
 second_part task [] ys h = h
 second_part task (x ∷ xs) ys h = second_part task xs ys h.1
-
--- what holds of each element of a list holds of each of another order of it
-pub all_reordered : {X : Type 0} (P : X → Type 0) (xs ys : List X) → IsPermutation xs ys → AllByRecursion P xs → AllByRecursion P ys
-all_reordered P xs ys p h = recursion_from_All P ys (All-permutation P xs ys p (All-from_recursion P xs h))
 
 -- ---- ties
 

@@ -1,5 +1,5 @@
 -- A list in another order, those that pass a test last; and the plan steps and the timed steps of a list.
-use Rattle.std.proofs.Common.{◌≡◌, refl, ap, ap₂, ℕ, ◌+◌, Bool, true, false, cond, not, List, [], ◌∷◌, ◌++◌, Option, Some, None}
+use Rattle.std.proofs.Common.{◌≡◌, refl, ap, ℕ, ◌+◌, Bool, true, false, cond, not, List, [], ◌∷◌, ◌++◌, Option, Some, None}
 use Rattle.std.specs.Prelude.{IsPermutation}
 use Rattle.std.specs.List.{filter}
 use Rattle.std.proofs.lemmas.List.Sorted.{IsPermutation-refl, IsPermutation-trans, IsPermutation-cons, IsPermutation-append_comm, IsPermutation-append_left}
@@ -8,12 +8,12 @@ use Rattle.task_types.specs.declared.actions.SnapKind.{SnapKind}
 use Rattle.task_types.specs.declared.actions.SnapKind.TheVariants.{Start, End, Instant, Timed}
 use Rattle.task_types.specs.declared.parts.TaskParts.{TaskParts}
 use Rattle.task_types.specs.declared.plans.PlanLine.{PlanLine}
-use Rattle.task_types.specs.Plan.{Plan, Step, action_of, snap_of, duration_of, end_step, plan_steps}
-use Rattle.task_types.specs.Agreement.{numbered}
+use Rattle.task_types.specs.Plan.{Step, snap_of, end_step}
 use Rattle.task_types.specs.Touch.{is_timed}
 use Rattle.ordered_course.specs.Lines.{duration_listed, started_on, steps_listed}
 use Rattle.ordered_course.proofs.Listed.{listed, plan_listed}
 use Rattle.ordered_course.proofs.Closing.{HaveActions}
+use Rattle.task_types.proofs.StepCounts.{unnumbered_steps}
 
 -- those that fail a test, then those that pass it
 pub split : (p : Step → Bool) (xs : List Step) → IsPermutation (filter (λ x. not (p x)) xs ++ filter p xs) xs
@@ -33,10 +33,6 @@ split p (x ∷ xs) = go (p x) (split p xs)
 end_step-unnumbered : (l : PlanLine) (n : ℕ) (o : Option ℕ) → end_step (record l { line = n }) o ≡ end_step l o
 end_step-unnumbered l n None = refl
 end_step-unnumbered l n (Some s) = refl
-
-pub steps-numbered : (task : TaskParts) (n : ℕ) (ls : Plan) → plan_steps task (numbered n ls) ≡ plan_steps task ls
-steps-numbered task n [] = refl
-steps-numbered task n (l ∷ ls) = ap₂ (λ (xs ys : List Step). record { time = l.at; snap = (action_of task l.action).start; duration = duration_of l } ∷ xs ++ ys) (end_step-unnumbered l n (action_of task l.action).end) (steps-numbered task (n + 1) ls)
 
 -- ---- plan steps
 

@@ -1,5 +1,5 @@
 -- The steps of a closed ordering at times that agree with it tell of its timed plan.
-use Rattle.std.proofs.Common.{◌≡◌, refl, sym, ap, subst, ◌∙◌, ℕ, zero, suc, ◌+◌, true, false, not, ◌&&◌, ◌==◌, List, [], ◌∷◌, ◌++◌, map, length, take, drop, arith, inl, inr, Some, None}
+use Rattle.std.proofs.Common.{◌≡◌, refl, sym, ap, subst, ◌∙◌, ℕ, zero, suc, ◌+◌, true, not, ◌&&◌, ◌==◌, List, [], ◌∷◌, ◌++◌, map, length, take, drop, arith, inl, inr, Some, None}
 use Rattle.std.specs.Prelude.{◌⊎◌, IsPermutation, slice_index, is_none, IsTrue}
 use Rattle.std.specs.List.{list_all, filter, flat_map, zip, AllByRecursion}
 use Rattle.std.proofs.lemmas.List.Sorted.{IsPermutation-trans, IsPermutation-append_left}
@@ -34,8 +34,9 @@ use Rattle.ordered_course.proofs.Lasting.{IsSound, begun_sound, numbered_lines_s
 use Rattle.ordered_course.proofs.Lines.{closed_listed}
 use Rattle.ordered_course.proofs.Owned.{are_owned}
 use Rattle.ordered_course.proofs.PlanRates.{IsDurative, IsInstant, plan_rates}
-use Rattle.ordered_course.proofs.Splitting.{split, steps-numbered, of_moment, plan_listed-is}
+use Rattle.ordered_course.proofs.Splitting.{split, of_moment, plan_listed-is}
 use Rattle.task_types.proofs.SnapTests.{timed_out}
+use Rattle.task_types.proofs.StepCounts.{unnumbered_steps, none_run}
 use Rattle.ordered_course.proofs.TimedSteps.{Follow, timed_from}
 
 -- ---- what a well made task and a closed ordering say
@@ -55,10 +56,6 @@ have_actions task w s e = go (snap-owned task w s)
 pub follow : (task : TaskParts) (o : Order) → IsTrue (is_built task o) → Follow task o.steps
 unfolding is_built
 follow task o h = every_out (length o.steps) (λ k. may_follow task (take k o.steps) (slice_index o.steps k) (snap_of task (slice_index o.steps k)).kind) (and_left _ _ (and_left _ _ h))
-
-none_run : (xs : List ℕ) → list_all (λ a. false) xs ≡ true → xs ≡ []
-none_run [] h = refl
-none_run (x ∷ xs) h = let c : false ≡ true = h in cc
 
 -- what a closed list says
 pub record Closed (task : TaskParts) (o : Order) : Type 0 where
@@ -119,7 +116,7 @@ module _ (task : TaskParts) (rules : Rules) (o : Order) (times : List ℚ) (w : 
       (steps_listed task none_started (zip o.steps times))
       (subst (λ ys. IsPermutation (plan_steps task (numbered 1 (begun_lines task (zip o.steps times))) ++ timed_steps task) (filter (λ s. not (of_moment task s)) (steps_listed task none_started (zip o.steps times)) ++ ys)) (sym timed_ones)
       (IsPermutation-append_left (timed_steps task) (plan_steps task (numbered 1 (begun_lines task (zip o.steps times)))) (filter (λ s. not (of_moment task s)) (steps_listed task none_started (zip o.steps times)))
-      (subst (λ xs. IsPermutation xs (filter (λ s. not (of_moment task s)) (steps_listed task none_started (zip o.steps times)))) (sym (steps-numbered task 1 (begun_lines task (zip o.steps times))))
+      (subst (λ xs. IsPermutation xs (filter (λ s. not (of_moment task s)) (steps_listed task none_started (zip o.steps times)))) (sym (unnumbered_steps task 1 (begun_lines task (zip o.steps times))))
       (subst (λ ys. IsPermutation (flat_map (line_steps task) (begun_lines task (zip o.steps times))) ys) (plan_listed-is task (have_actions task w) (zip o.steps times) none_started)
       (closed_listed task (are_owned task w) (zip o.steps times) none_started closes_all)))))
       (split (of_moment task) (steps_listed task none_started (zip o.steps times)))

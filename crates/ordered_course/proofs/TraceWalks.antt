@@ -27,15 +27,17 @@ use Rattle.task_types.proofs.Comparisons.{later_out, lt_in}
 use Rattle.task_types.proofs.Everyone.{all_map}
 use Rattle.task_types.proofs.Happenings.{Among, happenings-times}
 use Rattle.task_types.proofs.SetApart.{in_right}
+use Rattle.task_types.proofs.Unordered.{every_reordered}
 use Rattle.ordering.specs.Along.{at_first, carried, changes_fact, tied_apart, Follows, AreInOrder}
 use Rattle.ordering.specs.Laws.{Tells}
 use Rattle.ordering.proofs.ByTime.{after-by_time, filter_both, all_kept, same_where}
 use Rattle.ordered_course.specs.Walks.{Walks}
 use Rattle.ordered_course.proofs.BlockedSteps.{each_happens}
-use Rattle.ordered_course.proofs.ListFacts.{facts_listed, all_reordered}
+use Rattle.ordered_course.proofs.ListFacts.{facts_listed}
 use Rattle.ordered_course.proofs.Stories.{walks_alike}
 use Rattle.ordered_course.proofs.TreeFacts.{holds_alike}
 use Rattle.ordered_course.proofs.TwoWalks.{counts, list_walk, count_up_to, time_walk, facts_by_changers}
+use Rattle.basics.proofs.Lists.{each_map}
 
 -- ---- lists by their places
 
@@ -186,11 +188,6 @@ ascending_times task p (x ∷ xs) h tied = go (p x) refl (ascending_times task p
     go true e r = (later e xs h.0, r)
     go false e r = r
 
--- what each image has, the list of images has
-pub all_in_map : {X Y : Type 0} (P : Y → Type 0) (f : X → Y) (xs : List X) → AllByRecursion (λ x. P (f x)) xs → AllByRecursion P (map f xs)
-all_in_map P f [] h = tt
-all_in_map P f (x ∷ xs) h = (h.0, all_in_map P f xs h.1)
-
 each_among_more : (t : ℚ) (ts us : List ℚ) → AllByRecursion (λ u. Among u ts) us → AllByRecursion (λ u. Among u (t ∷ ts)) us
 each_among_more t ts us h = all_map (λ u. Among u ts) (λ u. Among u (t ∷ ts)) us (λ u m. inr m) h
 
@@ -293,8 +290,8 @@ module _ (task : TaskParts) (plan : Plan) (ss : List Step) (tells : Tells task p
       ∙ sym (map_twice told (λ t. 0 + count_up_to t change_times) (happenings task plan)))
 
   among_happenings : AllByRecursion (λ c. Among c (happenings task plan)) change_times
-  among_happenings = all_in_map (λ c. Among c (happenings task plan)) (λ x. x.time) changers
-      (all_kept (λ x. Among x.time (happenings task plan)) p ss (all_reordered (λ x. Among x.time (happenings task plan)) (steps task plan) ss tells.same (each_happens (λ t. Among t (happenings task plan)) task plan (each_among_itself (happenings task plan)))))
+  among_happenings = each_map (λ c. Among c (happenings task plan)) (λ x. x.time) changers
+      (all_kept (λ x. Among x.time (happenings task plan)) p ss (every_reordered (λ x. Among x.time (happenings task plan)) (steps task plan) ss tells.same (each_happens (λ t. Among t (happenings task plan)) task plan (each_among_itself (happenings task plan)))))
 
   time_walks : Walks (length changers) 0 (0 ∷ map (λ t. 0 + count_up_to t change_times) (happenings task plan))
   time_walks = subst (λ n. Walks n 0 (0 ∷ map (λ t. 0 + count_up_to t change_times) (happenings task plan))) (length-map changers (λ x. x.time))

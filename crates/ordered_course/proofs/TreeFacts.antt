@@ -1,43 +1,19 @@
 -- The truth of a formula depends on its facts alone.
-use Rattle.std.proofs.Common.{◌≡◌, refl, sym, ap, ap₂, subst, ◌∙◌, ℕ, Bool, true, false, not, ◌&&◌, ◌||◌, ◌==◌, List, [], ◌∷◌, map}
+use Rattle.std.proofs.Common.{◌≡◌, refl, sym, ap, ap₂, subst, ◌∙◌, ℕ, Bool, true, false, not, ◌&&◌, ◌||◌, ◌==◌, List, [], ◌∷◌}
 use Rattle.std.specs.Prelude.{if◌then◌else◌}
 use Rattle.std.specs.List.{list_all, list_any, flat_map, AllByRecursion}
 use Rattle.basics.proofs.Bools.{or_left}
 use Rattle.basics.proofs.Naturals.{same_itself}
-use Rattle.task_types.specs.declared.conditions.Literal.{Literal}
 use Rattle.task_types.specs.declared.formulas.FactTree.{FactTree}
-use Rattle.task_types.specs.declared.formulas.FactTree.TheFolds.{fold-FactTree, fold-roll-FactTree, ind-FactTree, map-FactTree}
-use Rattle.task_types.specs.declared.formulas.FactTree.TheViews.{roll-FactTree}
-use Rattle.task_types.specs.declared.formulas.FactTree.TheOpen.{FactTree-F}
 use Rattle.task_types.specs.declared.formulas.FactTree.TheVariants as tree
-use Rattle.task_types.specs.declared.formulas.FactTree.TheVariants.{rolls-True, rolls-Is, rolls-Not, rolls-And, rolls-Or}
 use Rattle.task_types.specs.Sets.{is_in}
 use Rattle.task_types.specs.State.{truth, tree_holds}
 use Rattle.task_types.specs.Touch.{tree_facts}
 use Rattle.task_types.proofs.Assigning.{is_in-left}
 use Rattle.task_types.proofs.FormulaFacts.{tree_facts-is, tree_facts-not, tree_facts-and, tree_facts-or}
 use Rattle.task_types.proofs.SetApart.{in_right}
-use Rattle.task_types.proofs.Truths.{tree_holds-is_at, tree_holds-not, tree_holds-and, tree_holds-or}
-
--- what holds of each formula whose parts already have it, holds of every formula
-each_formula : (P : FactTree → Type 0) → P tree.True → ((l : Literal) → P (tree.Is l)) → ((part : FactTree) → P part → P (tree.Not part))
-    → ((parts : List FactTree) → AllByRecursion P parts → P (tree.And parts)) → ((parts : List FactTree) → AllByRecursion P parts → P (tree.Or parts)) → (t : FactTree) → P t
-each_formula P truly of_literal of_not of_and of_or = ind-FactTree P (λ x y is. subst (λ z. P (roll-FactTree z)) is (layer y))
-  where
-    both : (es : List ((t : FactTree) × P t)) → AllByRecursion P (map (λ e. e.0) es)
-    both [] = tt
-    both (e ∷ es) = (e.1, both es)
-
-    layer : (y : FactTree-F ((t : FactTree) × P t)) → P (roll-FactTree (map-FactTree ((t : FactTree) × P t) FactTree (λ e. e.0) y))
-    layer FactTree-F.True = subst P (sym rolls-True) truly
-    layer (FactTree-F.Is l) = subst P (sym (rolls-Is l)) (of_literal l)
-    layer (FactTree-F.Not e) = subst P (sym (rolls-Not e.0)) (of_not e.0 e.1)
-    layer (FactTree-F.And es) = subst P (sym (rolls-And (map (λ e. e.0) es))) (of_and (map (λ e. e.0) es) (both es))
-    layer (FactTree-F.Or es) = subst P (sym (rolls-Or (map (λ e. e.0) es))) (of_or (map (λ e. e.0) es) (both es))
-
-true_holds : (facts : ℕ → Bool) → tree_holds tree.True facts ≡ true
-unfolding tree_holds
-true_holds facts = ap (λ t. fold-FactTree Bool (truth facts) t) (sym rolls-True) ∙ fold-roll-FactTree Bool (truth facts) FactTree-F.True
+use Rattle.task_types.proofs.Truths.{tree_holds-is_at, tree_holds-not, tree_holds-and, tree_holds-or, tree_holds-true}
+use Rattle.task_types.proofs.Formulas.{each_formula}
 
 module _ (facts there : ℕ → Bool) where
   abbrev AreSame : List ℕ → Type 0
@@ -60,7 +36,7 @@ module _ (facts there : ℕ → Bool) where
   -- formulas hold alike where their facts do
   pub holds_alike : (t : FactTree) → HoldsAlike t
   holds_alike = each_formula HoldsAlike
-      (λ h. true_holds facts ∙ sym (true_holds there))
+      (λ h. tree_holds-true facts ∙ sym (tree_holds-true there))
       (λ l h. tree_holds-is_at l facts ∙ ap (λ b. if l.holds then b else not b) (along_facts (tree_facts (tree.Is l)) (l.fact ∷ []) (tree_facts-is l) h l.fact (or_left (l.fact == l.fact) false (same_itself l.fact))) ∙ sym (tree_holds-is_at l there))
       (λ part r h. tree_holds-not part facts ∙ ap not (r (along_facts (tree_facts (tree.Not part)) (tree_facts part) (tree_facts-not part) h)) ∙ sym (tree_holds-not part there))
       (λ parts a h. tree_holds-and parts facts ∙ all_parts parts a (along_facts (tree_facts (tree.And parts)) (flat_map tree_facts parts) (tree_facts-and parts) h) ∙ sym (tree_holds-and parts there))

@@ -12,7 +12,7 @@ use Rattle.task_types.specs.Course.{happen}
 use Rattle.task_types.specs.Laws.{Ascends}
 use Rattle.task_types.proofs.Comparisons.{lt_in, le_in, eq_le}
 use Rattle.task_types.proofs.Everyone.{all_map}
-use Rattle.task_types.proofs.Happenings.{Among}
+use Rattle.task_types.proofs.Happenings.{Among, below_each}
 use Rattle.ordering.specs.Along.{Carried, carry, carry_all, changes_fact}
 use Rattle.ordered_course.specs.Walks.{Walks}
 use Rattle.ordered_course.proofs.Cut.{quiet_fact}
@@ -60,11 +60,6 @@ one_up_to t c cs h = ap (λ b. length (cond b (c ∷ filter (λ c. c ≤? t) cs)
 
 above_all : (t u : ℚ) (cs : List ℚ) → t <ℚ u → AllByRecursion (λ c. u <ℚ c) cs → AllByRecursion (λ c. t <ℚ c) cs
 above_all t u cs h a = all_map (λ c. u <ℚ c) (λ c. t <ℚ c) cs (λ c l. lt_trans t u c h l) a
-
-above_among : (t c : ℚ) (ts : List ℚ) → AllByRecursion (λ u. t <ℚ u) ts → Among c ts → t <ℚ c
-above_among t c [] a h = absurd h
-above_among t c (u ∷ us) a (inl e) = subst (λ x. t <ℚ x) (sym e) a.0
-above_among t c (u ∷ us) a (inr h) = above_among t c us a.1 h
 
 -- the times are all among others
 abbrev AllAmong : List ℚ → List ℚ → Type 0
@@ -119,7 +114,7 @@ time_walk (t ∷ ts) (c ∷ cs) i a b h = go h.0 (λ e. time_walk ts cs (suc i) 
     go : Among c (t ∷ ts) → (c ≡ t → Walks (length cs) (suc i) (suc i ∷ map (λ u. suc i + count_up_to u cs) ts)) → (t <ℚ c → Walks (suc (length cs)) i (i ∷ map (λ u. i + count_up_to u (c ∷ cs)) ts))
         → Walks (suc (length cs)) i (i ∷ (i + count_up_to t (c ∷ cs)) ∷ map (λ u. i + count_up_to u (c ∷ cs)) ts)
     go (inl e) f g = now e (f e)
-    go (inr k) f g = let l : t <ℚ c = above_among t c ts a.0 k in later l (g l)
+    go (inr k) f g = let l : t <ℚ c = below_each t c ts a.0 k in later l (g l)
 
 -- ---- facts of a group go by the steps that change it
 

@@ -8,7 +8,7 @@ use Rattle.rational.specs.Segment.{along}
 use Rattle.rational.proofs.Segments.{between as nonneg_between}
 use Rattle.rational.proofs.Order.{lt_le}
 use Rattle.rational.proofs.Inequalities.{le_trans, le_lt_trans}
-use Rattle.rational.proofs.Ring.{law, num, ◌⊕◌, ◌⊗◌, ◌≐◌}
+use Rattle.rational.proofs.Ring.{law, ◌⊕◌, ◌⊗◌, ◌≐◌}
 use Rattle.rational.proofs.Field.{ℚ_ring}
 use Rattle.exact_lin.specs.Forms.{LinearForm, terms_at}
 use Rattle.basics.proofs.Bools.{or_false_left, or_false_right, not_true}
@@ -23,6 +23,7 @@ use Rattle.task_types.specs.Touch.{bent_fluents}
 use Rattle.task_types.proofs.Comparisons.{lt_out, le_out, not_lt_out, later_out, lt_le_absurd}
 use Rattle.basics.proofs.Lists.{each_left, each_append}
 use Rattle.task_types.proofs.Everyone.{all_map}
+use Rattle.task_types.proofs.Segment.{terms-moved}
 use Rattle.ordering.specs.Along.{Carried, at_time, at_first, carry, carry_all, carried, changes, Independent, Agrees, AllAgree}
 use Rattle.ordering.specs.Laws.{Tells}
 use Rattle.ordering.proofs.Crossing.{MayCross}
@@ -31,15 +32,10 @@ use Rattle.ordering.proofs.ByTime.{before-by_time, after-by_time, may_cross}
 use Rattle.ordered_course.specs.Quiet.{IsQuiet, Leaves, LeavesOr}
 use Rattle.ordered_course.proofs.Cut.{cut-fluent, carry_append}
 
-terms-along : (level slope : ℕ → ℚ) (t : ℚ) (ts : List (ℕ × ℚ)) → terms_at ts (λ f. level f +ℚ slope f *ℚ t) ≡ terms_at ts level +ℚ terms_at ts slope *ℚ t
-terms-along level slope t [] = law ℚ_ring (t ∷ []) (λ t. num 0 ≐ num 0 ⊕ num 0 ⊗ t) refl
-terms-along level slope t (u ∷ us) = ap (λ q. u.1 *ℚ (level u.0 +ℚ slope u.0 *ℚ t) +ℚ q) (terms-along level slope t us)
-    ∙ law ℚ_ring (u.1 ∷ level u.0 ∷ slope u.0 ∷ t ∷ terms_at us level ∷ terms_at us slope ∷ []) (λ c l s t a b. c ⊗ (l ⊕ s ⊗ t) ⊕ (a ⊕ b ⊗ t) ≐ (c ⊗ l ⊕ a) ⊕ (c ⊗ s ⊕ b) ⊗ t) refl
-
 -- a form moves on a straight line
 pub form-along : (form : LinearForm) (m : Carried) (t : ℚ) → value form (at_time m t).fluents ≡ along (value form m.level) (terms_at form.terms m.slope) t
 unfolding value
-form-along form m t = ap (λ q. form.constant +ℚ q) (terms-along m.level m.slope t form.terms)
+form-along form m t = ap (λ q. form.constant +ℚ q) (terms-moved m.level m.slope t form.terms)
     ∙ law ℚ_ring (form.constant ∷ terms_at form.terms m.level ∷ terms_at form.terms m.slope ∷ t ∷ []) (λ c a b t. c ⊕ (a ⊕ b ⊗ t) ≐ (c ⊕ a) ⊕ b ⊗ t) refl
 
 same_value : (form : LinearForm) (s u : ℕ → ℚ) → terms_at form.terms s ≡ terms_at form.terms u → value form s ≡ value form u

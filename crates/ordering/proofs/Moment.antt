@@ -3,6 +3,7 @@ use Rattle.std.proofs.Common.{◌≡◌, refl, sym, ap, ap₂, subst, ◌∙◌,
 use Rattle.std.specs.Prelude.{not, ◌==◌}
 use Rattle.std.specs.List.{list_any, filter, AllByRecursion}
 use Rattle.std.proofs.Math.Path.{fun_ext}
+use Rattle.std.proofs.lemmas.List.{append-nil}
 use Rattle.rational.specs.Rational.{ℚ, ◌+ℚ◌, ◌*ℚ◌, ◌-ℚ◌}
 use Rattle.rational.proofs.Ring.{law, num, ◌⊕◌, ◌⊗◌, ◌⊖◌, ◌≐◌}
 use Rattle.rational.proofs.Field.{ℚ_ring}
@@ -19,10 +20,6 @@ use Rattle.ordering.specs.Along.{Carried, at_time, turn, carry, carry_all, Leave
 use Rattle.basics.proofs.Bools.{or_false_left, or_false_right}
 use Rattle.ordering.proofs.Swapping.{is_in-append-out, no_entries, terms-same, new_value, none_assigned, none_increased}
 use Rattle.task_types.proofs.Values.{total-append}
-
-pub append_nothing : {A : Type 0} (xs : List A) → xs ++ [] ≡ xs
-append_nothing [] = refl
-append_nothing (x ∷ xs) = ap (λ l. x ∷ l) (append_nothing xs)
 
 -- a fluent that a step doesn't write keeps its value when it happens
 pub unwritten : (task : TaskParts) (s : State) (x : Step) (f : ℕ) → is_in f (written_fluents (snap_of task x.snap)) ≡ false → (happen task (x ∷ []) s).fluents f ≡ s.fluents f
@@ -119,7 +116,7 @@ module _ (task : TaskParts) (s : State) (x : Step) (ys : List Step) (h : AllByRe
   fluent_first f false e = new_values task s (x ∷ ys) f
       ∙ ap₂ (λ (a : List ℚ) (q : ℚ). last_or_else (s.fluents f) (own_assigned f ++ a) +ℚ q) (none_assigns task s x f ys e) (total-append (own_increased f) (increased task ys s f))
       ∙ law ℚ_ring (last_or_else (s.fluents f) (own_assigned f ++ []) ∷ total (own_increased f) ∷ total (increased task ys s f) ∷ []) (λ v i j. v ⊕ (i ⊕ j) ≐ (v ⊕ i) ⊕ j) refl
-      ∙ ap (λ q. (last_or_else (s.fluents f) (own_assigned f ++ []) +ℚ q) +ℚ total (increased task ys s f)) (ap total (sym (append_nothing (own_increased f))))
+      ∙ ap (λ q. (last_or_else (s.fluents f) (own_assigned f ++ []) +ℚ q) +ℚ total (increased task ys s f)) (ap total (sym (append-nil (own_increased f))))
       ∙ ap (λ q. q +ℚ total (increased task ys s f)) (sym (new_value task s x f))
       ∙ sym (after_first f ∙ ap (λ (a : List ℚ). last_or_else ((happen task (x ∷ []) s).fluents f) a +ℚ total (increased task ys s f)) (none_assigns task s x f ys e))
   fluent_first f true e =

@@ -1,10 +1,9 @@
 -- That what is found is an offence of the first phase that has any.
 use Rattle.std.proofs.Common.{◌≡◌, refl, ap, ◌∙◌, List, [], ◌∷◌, All, Option, Some, None, arith}
 use Rattle.std.proofs.lemmas.List.Elements.{All-cons, All-head, All-tail}
-use Rattle.pddl_terms.specs.declared.faults.Kind.TheVariants.{Name}
 use Rattle.pddl_names.specs.declared.offences.Offence.{Offence}
 use Rattle.pddl_names.specs.Offences.{offence, least}
-use Rattle.pddl_names.proofs.Firsts.{least_is_first}
+use Rattle.pddl_names.proofs.Firsts.{least_is_first, none_empty}
 use Rattle.pddl_domain.specs.Phases.{or_later, first_of_phases}
 use Rattle.pddl_domain.specs.Laws.{IsOfFirstPhase, FirstPhaseCounts}
 
@@ -28,12 +27,9 @@ behind_right p ps o e f = record {
   first = f.first;
 }
 
-is_empty : (p : List Offence) → least p ≡ None → p ≡ []
-is_empty p e = (least_is_first p (offence Name 0)).none.0 e
-
 step : (p : List Offence) (ps : List (List Offence)) (o : Offence) (r : Option Offence) → least p ≡ r → (first_of_phases ps ≡ Some o → IsOfFirstPhase ps o)
     → or_later r (first_of_phases ps) ≡ Some o → IsOfFirstPhase (p ∷ ps) o
-step p ps o None e more f = behind_right p ps o (is_empty p e) (more f)
+step p ps o None e more f = behind_right p ps o (none_empty p e) (more f)
 step p ps o (Some x) e more f = let same : x ≡ o = cc in in_first p ps o (e ∙ ap Some same)
 
 first_phase : (phases : List (List Offence)) (o : Offence) → first_of_phases phases ≡ Some o → IsOfFirstPhase phases o
@@ -42,7 +38,7 @@ first_phase (p ∷ ps) o e = step p ps o (least p) refl (first_phase ps o) e
 
 step_none : (p : List Offence) (ps : List (List Offence)) (r : Option Offence) → least p ≡ r → (first_of_phases ps ≡ None → All (λ (q : List Offence). q ≡ []) ps)
     → ◌≡◌ {A = Option Offence} (or_later r (first_of_phases ps)) None → All (λ (q : List Offence). q ≡ []) (p ∷ ps)
-step_none p ps None e more f = All-cons (λ (q : List Offence). q ≡ []) p ps (is_empty p e) (more f)
+step_none p ps None e more f = All-cons (λ (q : List Offence). q ≡ []) p ps (none_empty p e) (more f)
 step_none p ps (Some x) e more f = absurd (cc)
 
 all_right : (phases : List (List Offence)) → first_of_phases phases ≡ None → All (λ (q : List Offence). q ≡ []) phases

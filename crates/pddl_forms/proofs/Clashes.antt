@@ -6,6 +6,7 @@ use Rattle.std.specs.Str.{bytes_eq}
 use Rattle.std.proofs.lemmas.Slice.Eq.{bytes_eq-Decides}
 use Rattle.std.proofs.lemmas.Bool.Decides.{Decides-eqb, Decides-int_eq, same_from_decides}
 use Rattle.std.proofs.lemmas.List.Concat.{flat_map-append}
+use Rattle.std.proofs.Math.Bool.{and-false}
 use Rattle.basics.proofs.Bools.{and_left, and_right, and_in, or_assoc, or_false, or_right}
 use Rattle.rational.specs.Rational.{ℚ}
 use Rattle.pddl_names.specs.Declarations.{Text, among, with_new}
@@ -18,9 +19,10 @@ use Rattle.pddl_names.specs.declared.offences.Offence.{Offence}
 use Rattle.pddl_forms.specs.Offences.{unless, least_with}
 use Rattle.pddl_forms.specs.TimedLiterals.{same_words, fact_words, same_number, same_fact, differ, clashes_behind}
 use Rattle.pddl_forms.specs.Keys.{key, keys_by, keys_of, is_seen_by, is_seen, clashes_seen}
-use Rattle.pddl_forms.proofs.KeysApart.{keys-apart, same_parts}
+use Rattle.pddl_forms.proofs.KeysApart.{keys-apart}
 use Rattle.pddl_names.proofs.Doubling.{with_new-append}
 use Rattle.pddl_forms.proofs.Least.{least_of}
+use Rattle.rational.proofs.Fractions.{same_parts}
 
 -- ---- what the tests decide
 words_decide : (vs ws : List Text) → ((same_words vs ws ≡ true) → vs ≡ ws) × (vs ≡ ws → same_words vs ws ≡ true)
@@ -87,14 +89,10 @@ among-with_new names (x ∷ xs) k =
 abbrev contradicts : Bool → ℚ → Call → TimedLiteral → Bool
 contradicts holds moment fact m = differ holds m.holds && same_number moment m.moment && same_fact fact m.atom
 
-and_false : (b : Bool) → (b && false) ≡ false
-and_false true = refl
-and_false false = refl
-
 one_key : (g : Bool) (q : ℚ) (a : Atom) (h : Bool) (r : ℚ) (c : Call) (more : List Text)
     → among (keys_by h r c ++ more) (key (not g) q a) ≡ ((differ g h && same_number q r && same_fact (call.Named a) c) || among more (key (not g) q a))
 one_key g q a h r (call.Named b) more = ap (λ t. t || among more (key (not g) q a)) (opposite_is g h q r a b)
-one_key g q a h r (call.LeftOut at) more = ap (λ t. t || among more (key (not g) q a)) (sym (and_false (differ g h && same_number q r)))
+one_key g q a h r (call.LeftOut at) more = ap (λ t. t || among more (key (not g) q a)) (sym (and-false (differ g h && same_number q r)))
 
 seen_keys : (g : Bool) (q : ℚ) (a : Atom) (before : List TimedLiteral) → among (flat_map keys_of before) (key (not g) q a) ≡ list_any (contradicts g q (call.Named a)) before
 seen_keys g q a [] = refl
@@ -105,8 +103,8 @@ none_left_out g q at [] = refl
 none_left_out g q at (m ∷ ms) = none_left_out g q at ms ∙ ap (λ t. t || list_any (contradicts g q (call.LeftOut at)) ms) (sym (by m.atom))
   where
     by : (c : Call) → (differ g m.holds && same_number q m.moment && same_fact (call.LeftOut at) c) ≡ false
-    by (call.Named b) = and_false (differ g m.holds && same_number q m.moment)
-    by (call.LeftOut place) = and_false (differ g m.holds && same_number q m.moment)
+    by (call.Named b) = and-false (differ g m.holds && same_number q m.moment)
+    by (call.LeftOut place) = and-false (differ g m.holds && same_number q m.moment)
 
 seen_by_is : (g : Bool) (q : ℚ) (c : Call) (before : List TimedLiteral) → is_seen_by (with_new [] (flat_map keys_of before)) g q c ≡ list_any (contradicts g q c) before
 seen_by_is g q (call.Named a) before = among-with_new [] (flat_map keys_of before) (key (not g) q a) ∙ seen_keys g q a before

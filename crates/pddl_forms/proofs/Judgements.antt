@@ -16,6 +16,7 @@ use Rattle.std.proofs.lemmas.List.{take_more, length-take}
 use Rattle.std.proofs.Common.{suc, ap₂, nat_eq, arith}
 use Rattle.std.proofs.lemmas.Bool.Decides.{Decides-eqb}
 use Rattle.basics.proofs.Bools.{and_assoc}
+use Rattle.basics.proofs.Lists.{filter-shorter}
 use Rattle.pddl_forms.specs.Expressions.{Judged, judged, all_offences, changing_count, expression_layer, judgement, is_constant, is_changing, expression_offences}
 use Rattle.pddl_names.specs.declared.offences.Offence.{Offence}
 use Rattle.pddl_forms.proofs.Least.{least_of, least_with-append}
@@ -160,17 +161,8 @@ pub count-next : {A : Type 0} (p : A → Bool) (so_far next : ℕ) (xs : List A)
     → so_far ≡ length (filter p (take i xs)) → next ≡ so_far + (if p x then 1 else 0) → next ≡ length (filter p (take (i + 1) xs))
 count-next p so_far next xs i x h e j n = n ∙ ap (λ k. k + (if p x then 1 else 0)) j ∙ sym (ap (λ l. length (filter p l)) (take_more xs i x h ∙ ap (λ y. take i xs ++ y ∷ []) (sym e)) ∙ count-behind p x (take i xs))
 
--- no more than there are
-count-below : {A : Type 0} (p : A → Bool) (xs : List A) → length (filter p xs) ≤ length xs
-count-below p [] = omega arith
-count-below p (x ∷ xs) = by (p x) (count-below p xs)
-  where
-    by : (t : Bool) → length (filter p xs) ≤ length xs → length (if t then x ∷ filter p xs else filter p xs) ≤ suc (length xs)
-    by true r = omega (arith, r)
-    by false r = omega (arith, r)
-
 pub count-within : {A : Type 0} (p : A → Bool) (xs : List A) (i : ℕ) → i < length xs → length (filter p (take i xs)) < length xs
-count-within {A = A} p xs i h = let r = count-below p (take i xs) in omega (arith, r, length-take {A = A})
+count-within {A = A} p xs i h = let r = filter-shorter p (take i xs) in omega (arith, r, length-take {A = A})
 
 some_count : (k : ℕ) → nat_eq (suc k) 0 ≡ false
 some_count k = by (nat_eq (suc k) 0) refl

@@ -3,7 +3,7 @@ use Rattle.std.proofs.Common.{◌≡◌, refl, sym, ap, ap₂, ◌∙◌, ℕ, z
 use Rattle.std.specs.Prelude.{ℤ, pos, negsuc, ◌*ℤ◌, unsigned_abs}
 use Rattle.std.specs.List.{flat_map}
 use Rattle.rational.specs.Rational.{ℚ}
-use Rattle.rational.proofs.Fractions.{equal_from_cross}
+use Rattle.rational.proofs.Fractions.{same_parts}
 use Rattle.pddl_terms.specs.declared.trees.Atom.{Atom}
 use Rattle.pddl_forms.specs.TimedLiterals.{fact_words}
 use Rattle.pddl_forms.specs.Keys.{encoded, digits, number_key, sign_of, moment_key, truth_key, key}
@@ -125,10 +125,6 @@ truths-apart true true e = refl
 truths-apart true false e = absurd (omega (arith, e))
 truths-apart false true e = absurd (omega (arith, e))
 truths-apart false false e = refl
-
--- numbers with the same parts are the same
-pub same_parts : (q r : ℚ) → q.num ≡ r.num → q.den ≡ r.den → q ≡ r
-same_parts q r e f = equal_from_cross q r (ap₂ (λ (x : ℤ) (d : ℕ). x *ℤ pos d) e (sym f))
 
 pub keys-apart : (g h : Bool) (q r : ℚ) (a b : Atom) → key g q a ≡ key h r b → (g ≡ h) × (q ≡ r) × (fact_words a ≡ fact_words b)
 unfolding key moment_key

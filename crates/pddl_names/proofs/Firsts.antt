@@ -14,7 +14,7 @@ some_earlier x (Some y) h A = by (nat_le x.place y.place) h
     by true h = absurd (cc)
     by false h = absurd (cc)
 
-none_empty : (os : List Offence) → least os ≡ None → os ≡ []
+pub none_empty : (os : List Offence) → least os ≡ None → os ≡ []
 none_empty [] h = refl
 none_empty (x ∷ xs) h = some_earlier x (least xs) h (x ∷ xs ≡ [])
 

@@ -1,15 +1,12 @@
 -- That fitting is reflexive and transitive.
-use Rattle.std.proofs.Common.{◌≡◌, refl, sym, ap, ◌∙◌, ℕ, zero, suc, ◌+◌, Bool, true, false, true≢false, ◌||◌, ◌⊎◌, inl, inr, List, length, Option, None, Some, if◌then◌else◌, arith}
+use Rattle.std.proofs.Common.{◌≡◌, refl, sym, ap, ◌∙◌, ℕ, zero, suc, ◌+◌, true, false, true≢false, ◌||◌, ◌⊎◌, inl, inr, List, length, Option, None, Some, if◌then◌else◌, arith}
+use Rattle.std.proofs.lemmas.Bool.{or_cases}
 use Rattle.std.specs.Str.{bytes_eq}
 use Rattle.basics.proofs.Bools.{or_left, or_right}
 use Rattle.pddl_names.specs.Declarations.{Text, Typed, object_word, value_of}
 use Rattle.pddl_names.specs.Fitting.{is_below, is_nothing, fits}
 use Rattle.pddl_names.specs.Laws.{FittingIsAnOrder}
 use Rattle.pddl_names.proofs.Ways.{Way, Short, short_way, joined_ways, chain-way, way-chain}
-
-or_cases : (a b : Bool) → (a || b) ≡ true → (a ≡ true) ⊎ (b ≡ true)
-or_cases true b h = inl refl
-or_cases false b h = inr h
 
 -- what fits by none of the first three tests is below
 abbrev Fits : List Typed → Text → Text → Type 0

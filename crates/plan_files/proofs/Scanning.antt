@@ -83,7 +83,7 @@ one_run b = go (is_run_byte b)
     go true = refl
     go false = refl
 
-run_all : (bs : List ℕ) → list_all is_run_byte (run_in_front bs) ≡ true
+pub run_all : (bs : List ℕ) → list_all is_run_byte (run_in_front bs) ≡ true
 run_all [] = refl
 run_all (c ∷ cs) = go (is_run_byte c) refl (run_all cs)
   where

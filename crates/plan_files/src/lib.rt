@@ -21,4 +21,5 @@ pub use faults::{LineFault, LineKind};
 pub use lines::{Written, next_written};
 pub use orders::read_order;
 pub use plans::read_plan;
+pub use scan::{are_blanks, behind_mark, next_run};
 pub use words::{PlanText, read_words};

@@ -1,10 +1,10 @@
 -- Lists of which each chosen element passes a test.
-use Rattle.std.proofs.Common.{◌≡◌, refl, sym, ◌∙◌, Bool, true, false, cond, List, [], ◌∷◌, ◌++◌, map}
+use Rattle.std.proofs.Common.{◌≡◌, refl, sym, ◌∙◌, Bool, true, false, cond, List, [], ◌∷◌, ◌++◌}
 use Rattle.std.specs.Prelude.{◌↔◌, IsPermutation}
 use Rattle.std.specs.List.{AllByRecursion, list_all, flat_map, filter}
 use Rattle.std.proofs.lemmas.List.Sorted.{IsPermutation-sym}
 use Rattle.basics.proofs.Bools.{and_left, and_right, and_in}
-use Rattle.basics.proofs.Lists.{each_append, each_left, each_right}
+use Rattle.basics.proofs.Lists.{each_append, each_left, each_right, each_map}
 use Rattle.task_types.proofs.Everyone.{all_map}
 use Rattle.task_types.proofs.Unordered.{every_reordered}
 use Rattle.task_types.proofs.Reordering.{reordered}
@@ -25,10 +25,6 @@ chosen_in A p (x ∷ xs) h = ((λ a. and_left (p x) (list_all p xs) (h a)), chos
 pub each-flat_in : {X Y : Type 0} (P : Y → Type 0) (f : X → List Y) (xs : List X) → AllByRecursion (λ x. AllByRecursion P (f x)) xs → AllByRecursion P (flat_map f xs)
 each-flat_in P f [] h = tt
 each-flat_in P f (x ∷ xs) h = each_append P (f x) (flat_map f xs) h.0 (each-flat_in P f xs h.1)
-
-pub each-map_in : {X Y : Type 0} (P : Y → Type 0) (f : X → Y) (xs : List X) → AllByRecursion (λ x. P (f x)) xs → AllByRecursion P (map f xs)
-each-map_in P f [] h = tt
-each-map_in P f (x ∷ xs) h = (h.0, each-map_in P f xs h.1)
 
 -- two lists gone through in either order
 pub each-crossed : {X Y : Type 0} (R : X → Y → Type 0) (xs : List X) (ys : List Y) → AllByRecursion (λ x. AllByRecursion (R x) ys) xs → AllByRecursion (λ y. AllByRecursion (λ x. R x y) xs) ys

@@ -4,7 +4,7 @@ use Rattle.std.specs.Prelude.{◌↔◌, IsPermutation, slice_index_or}
 use Rattle.std.specs.List.{AllByRecursion, flat_map, enumerate_from}
 use Rattle.rational.specs.Rational.{ℚ}
 use Rattle.basics.specs.Duties.{duty}
-use Rattle.basics.proofs.Lists.{each_append, each_left}
+use Rattle.basics.proofs.Lists.{each_append, each_left, each_map}
 use Rattle.task_types.specs.declared.parts.TaskParts.{TaskParts}
 use Rattle.task_types.specs.declared.plans.PlanLine.{PlanLine}
 use Rattle.task_types.specs.declared.plans.Reason.{Reason}
@@ -16,7 +16,7 @@ use Rattle.plan_validator.specs.Firsts.{Place, Note}
 use Rattle.plan_validator.proofs.Noting.{Precedes, Placed, AreAscending, duties_at}
 use Rattle.plan_validator.proofs.Judgement.{Agree}
 use Rattle.task_types.proofs.Everyone.{all_of_flat_map, all_of_map}
-use Rattle.plan_validator.proofs.Choosing.{same-reordered, each-flat_in, each-map_in}
+use Rattle.plan_validator.proofs.Choosing.{same-reordered, each-flat_in}
 
 -- ---- the lines at their places
 
@@ -73,7 +73,7 @@ module _ (task : TaskParts) (plan : Plan) (step_test : Step → Bool) (line_test
       lines_in : (n : ℕ) (ls : Plan) → AllByRecursion lines_known ls → AllByRecursion Passed (line_items n ls) → AllByRecursion Chosen (flat_map (owned_line task) (enumerate_from n ls))
       lines_in n [] k h = tt
       lines_in n (l ∷ ls) k h = each_append Chosen (owned_line task (n, l)) (flat_map (owned_line task) (enumerate_from (n + 1) ls))
-          (each-map_in Chosen (owned n) (line_steps task l) ((by_steps l k.0 (Q (n, 0))).1 h.0)) (lines_in (n + 1) ls k.1 h.1)
+          (each_map Chosen (owned n) (line_steps task l) ((by_steps l k.0 (Q (n, 0))).1 h.0)) (lines_in (n + 1) ls k.1 h.1)
 
       timed_in : (m n : ℕ) (ts : List (ℚ × ℕ)) → AllByRecursion (λ t. step_test (timed_step t) ≡ true) ts → AllByRecursion Chosen (map (owned_moment m) (enumerate_from n ts))
       timed_in m n [] h = tt
@@ -88,5 +88,5 @@ module _ (task : TaskParts) (plan : Plan) (step_test : Step → Bool) (line_test
     pub steps-agree : (sorted : List OwnedStep) → IsPermutation (owned_steps task plan) sorted → Agree line_test (line_items 0 plan) (map note_of sorted)
     steps-agree sorted p = λ Q. (
       λ h. (steps-lines Q).0 ((same-reordered (Chosen Q) (owned_steps task plan) sorted p).1 (all_of_map (λ n. Q n.0 → n.1 ≡ true) note_of sorted h)),
-      λ h. each-map_in (λ n. Q n.0 → n.1 ≡ true) note_of sorted ((same-reordered (Chosen Q) (owned_steps task plan) sorted p).0 ((steps-lines Q).1 h)),
+      λ h. each_map (λ n. Q n.0 → n.1 ≡ true) note_of sorted ((same-reordered (Chosen Q) (owned_steps task plan) sorted p).0 ((steps-lines Q).1 h)),
     )

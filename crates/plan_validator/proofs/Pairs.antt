@@ -7,7 +7,7 @@ use Rattle.std.proofs.lemmas.List.{map-append}
 use Rattle.rational.specs.Rational.{ℚ, zeroℚ}
 use Rattle.basics.specs.Duties.{duty}
 use Rattle.basics.proofs.Bools.{and_left, and_right, and_in}
-use Rattle.basics.proofs.Lists.{each_append, each_left, each_right}
+use Rattle.basics.proofs.Lists.{each_append, each_left, each_right, each_map}
 use Rattle.basics.proofs.Naturals.{le_in, le_out}
 use Rattle.task_types.specs.declared.parts.Rules.{Rules}
 use Rattle.task_types.specs.declared.parts.TaskParts.{TaskParts}
@@ -25,7 +25,7 @@ use Rattle.plan_validator.specs.Clashes.{pair_place, is_kept, clash_notes}
 use Rattle.plan_validator.proofs.Noting.{Precedes, Placed, AreAscending, duties_at}
 use Rattle.plan_validator.proofs.Judgement.{Agree}
 use Rattle.plan_validator.proofs.Ascending.{ascending-append}
-use Rattle.plan_validator.proofs.Choosing.{EachPair, EachAcross, pairs-append, pairs-left, pairs-right, pairs-across, each-map_in, chosen_in, chosen_out}
+use Rattle.plan_validator.proofs.Choosing.{EachPair, EachAcross, pairs-append, pairs-left, pairs-right, pairs-across, chosen_in, chosen_out}
 use Rattle.task_types.proofs.Everyone.{all_both, all_map, all_of_map}
 use Rattle.plan_validator.proofs.Windows.{AreKept, windows_in, windows_out, kept-reordered}
 
@@ -219,7 +219,7 @@ module _ (task : TaskParts) (rules : Rules) (n : ℕ) where
       row_out s ts h = chosen_out (Q (i, j)) (are_apart task rules s) ts (all_map (λ t. R (owned i s) (owned j t)) (λ t. Q (i, j) → are_apart task rules s t ≡ true) ts (λ t. kept_out i j s t low up) (all_of_map (R (owned i s)) (owned j) ts h))
 
       row_in : (s : Step) (ts : List Step) → (Q (i, j) → list_all (are_apart task rules s) ts ≡ true) → AllByRecursion (R (owned i s)) (map (owned j) ts)
-      row_in s ts h = each-map_in (R (owned i s)) (owned j) ts (all_map (λ t. Q (i, j) → are_apart task rules s t ≡ true) (λ t. R (owned i s) (owned j t)) ts (λ t. kept_in i j s t low up) (chosen_in (Q (i, j)) (are_apart task rules s) ts h))
+      row_in s ts h = each_map (R (owned i s)) (owned j) ts (all_map (λ t. Q (i, j) → are_apart task rules s t ≡ true) (λ t. R (owned i s) (owned j t)) ts (λ t. kept_in i j s t low up) (chosen_in (Q (i, j)) (are_apart task rules s) ts h))
 
       across_out : (ss ts : List Step) → EachAcross R (map (owned i) ss) (map (owned j) ts) → Q (i, j) → all_apart task rules ss ts ≡ true
       across_out [] ts h q = refl

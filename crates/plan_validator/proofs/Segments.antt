@@ -5,7 +5,7 @@ use Rattle.std.specs.List.{AllByRecursion, enumerate_from}
 use Rattle.std.proofs.lemmas.List.{map-append}
 use Rattle.basics.specs.Duties.{duty}
 use Rattle.basics.proofs.Bools.{and_left, and_right, and_in}
-use Rattle.basics.proofs.Lists.{each_append, each_left, each_right}
+use Rattle.basics.proofs.Lists.{each_append, each_left, each_right, each_map}
 use Rattle.task_types.specs.declared.parts.TaskParts.{TaskParts}
 use Rattle.task_types.specs.declared.plans.PlanLine.{PlanLine}
 use Rattle.task_types.specs.declared.plans.Reason.{Reason}
@@ -23,7 +23,7 @@ use Rattle.plan_validator.proofs.Noting.{Precedes, Placed, AreAscending, duties_
 use Rattle.plan_validator.proofs.Judgement.{Agree}
 use Rattle.plan_validator.proofs.Ascending.{ascending-append, numbered-above, numbered-ascend}
 use Rattle.task_types.proofs.Everyone.{all_both, all_map, all_of_flat_map, all_of_map}
-use Rattle.plan_validator.proofs.Choosing.{same-reordered, each-flat_in, each-map_in, each-crossed, each-filter_in, each-filter_out}
+use Rattle.plan_validator.proofs.Choosing.{same-reordered, each-flat_in, each-crossed, each-filter_in, each-filter_out}
 
 -- ---- the segments of the lines at their places
 
@@ -107,17 +107,17 @@ module _ (task : TaskParts) (plan : Plan) where
 
     segment_in : (k : ℕ) → AllByRecursion (λ p. Passed p k) lines → AllByRecursion Met (segment_notes task plan lines k)
     segment_in k h = each_append Met (map (over_all_note task k (state_after task plan k)) (running_over task plan lines k)) (map (over_all_note task k (state_before task plan (suc k))) (running_over task plan lines k))
-        (each-map_in Met (over_all_note task k (state_after task plan k)) (running_over task plan lines k) (each-filter_in (λ p. Q (p.place, k) → holds (over_all_of task p) (state_after task plan k) ≡ true) (runs k) lines
+        (each_map Met (over_all_note task k (state_after task plan k)) (running_over task plan lines k) (each-filter_in (λ p. Q (p.place, k) → holds (over_all_of task p) (state_after task plan k) ≡ true) (runs k) lines
         (all_map (λ p. Passed p k) (λ p. runs k p ≡ true → Q (p.place, k) → holds (over_all_of task p) (state_after task plan k) ≡ true) lines
         (λ p f r q. and_left _ _ (given (runs k p) (holds (over_all_of task p) (state_after task plan k)) (holds (over_all_of task p) (state_before task plan (suc k))) (f q) r)) h)))
-        (each-map_in Met (over_all_note task k (state_before task plan (suc k))) (running_over task plan lines k) (each-filter_in (λ p. Q (p.place, k) → holds (over_all_of task p) (state_before task plan (suc k)) ≡ true) (runs k) lines
+        (each_map Met (over_all_note task k (state_before task plan (suc k))) (running_over task plan lines k) (each-filter_in (λ p. Q (p.place, k) → holds (over_all_of task p) (state_before task plan (suc k)) ≡ true) (runs k) lines
         (all_map (λ p. Passed p k) (λ p. runs k p ≡ true → Q (p.place, k) → holds (over_all_of task p) (state_before task plan (suc k)) ≡ true) lines
         (λ p f r q. and_right _ _ (given (runs k p) (holds (over_all_of task p) (state_after task plan k)) (holds (over_all_of task p) (state_before task plan (suc k))) (f q) r)) h)))
 
     -- the lines at their places, in the order of the plan
     spans_out : (s n : ℕ) (ls : Plan) → AllByRecursion (λ p. AllByRecursion (Passed p) (numbers s)) (map placed (enumerate_from n ls)) → AllByRecursion (λ e. Q e.place → span_test e.item ≡ true) (span_items s n ls)
     spans_out s n [] h = tt
-    spans_out s n (l ∷ ls) h = each_append (λ e. Q e.place → span_test e.item ≡ true) (map (span_item n l) (numbers s)) (span_items s (n + 1) ls) (each-map_in (λ e. Q e.place → span_test e.item ≡ true) (span_item n l) (numbers s) h.0) (spans_out s (n + 1) ls h.1)
+    spans_out s n (l ∷ ls) h = each_append (λ e. Q e.place → span_test e.item ≡ true) (map (span_item n l) (numbers s)) (span_items s (n + 1) ls) (each_map (λ e. Q e.place → span_test e.item ≡ true) (span_item n l) (numbers s) h.0) (spans_out s (n + 1) ls h.1)
 
     spans_in : (s n : ℕ) (ls : Plan) → AllByRecursion (λ e. Q e.place → span_test e.item ≡ true) (span_items s n ls) → AllByRecursion (λ p. AllByRecursion (Passed p) (numbers s)) (map placed (enumerate_from n ls))
     spans_in s n [] h = tt

@@ -5,7 +5,6 @@ use Rattle.std.specs.List.{AllByRecursion, filter, flat_map, enumerate_from}
 use Rattle.exact_lin.specs.Forms.{LinearForm}
 use Rattle.exact_lin.specs.Reckoning.{wide_limit}
 use Rattle.exact_lin.specs.Reckonings.{Reckoning, Value, Sum, IsDefined}
-use Rattle.basics.proofs.Lists.{each_left, each_right}
 use Rattle.basics.proofs.Naturals.{lt_in, lt_out}
 use Rattle.rational.specs.Rational.{ℚ}
 use Rattle.task_types.specs.declared.parts.Rules.{Rules}
@@ -24,12 +23,7 @@ use Rattle.plan_validator.specs.Segments.{over_all_values}
 use Rattle.task_types.proofs.Everyone.{all_both, all_map, all_of_flat_map}
 use Rattle.timed_meaning.proofs.Amounts.{append-in}
 use Rattle.plan_validator.proofs.Choosing.{same-reordered, each-flat_in}
-
-left_of : (rs ss : List Reckoning) → Defined (rs ++ ss) → Defined rs
-left_of rs ss d = each_left (IsDefined wide_limit) rs ss d
-
-right_of : (rs ss : List Reckoning) → Defined (rs ++ ss) → Defined ss
-right_of rs ss d = each_right (IsDefined wide_limit) rs ss d
+use Rattle.metric_cost.proofs.Adding.{defined_left, defined_right}
 
 -- ---- over-all forms, at both ends or end by end
 
@@ -120,13 +114,13 @@ module _ (task : TaskParts) (rules : Rules) (plan : Plan) (k : ℕ) where
     whole_in a b c = subst Defined (sym whole-is) (append-in (reads ++ effects_at task plan k ++ late ++ move_at task plan k) overs (append-in (reads ++ effects_at task plan k ++ late) (move_at task plan k) a b) c)
 
     pub whole_visit : Defined (whole_at task rules plan k) → Defined (reads ++ effects_at task plan k ++ late)
-    whole_visit d = left_of (reads ++ effects_at task plan k ++ late) (move_at task plan k) (left_of (reads ++ effects_at task plan k ++ late ++ move_at task plan k) overs (subst Defined whole-is d))
+    whole_visit d = defined_left (reads ++ effects_at task plan k ++ late) (move_at task plan k) (defined_left (reads ++ effects_at task plan k ++ late ++ move_at task plan k) overs (subst Defined whole-is d))
 
     pub whole_move : Defined (whole_at task rules plan k) → Defined (move_at task plan k)
-    whole_move d = right_of (reads ++ effects_at task plan k ++ late) (move_at task plan k) (left_of (reads ++ effects_at task plan k ++ late ++ move_at task plan k) overs (subst Defined whole-is d))
+    whole_move d = defined_right (reads ++ effects_at task plan k ++ late) (move_at task plan k) (defined_left (reads ++ effects_at task plan k ++ late ++ move_at task plan k) overs (subst Defined whole-is d))
 
     pub whole_overs : Defined (whole_at task rules plan k) → Defined overs
-    whole_overs d = right_of (reads ++ effects_at task plan k ++ late ++ move_at task plan k) overs (subst Defined whole-is d)
+    whole_overs d = defined_right (reads ++ effects_at task plan k ++ late ++ move_at task plan k) overs (subst Defined whole-is d)
 
   module _ (h : suc k ≡ count task plan) where
     not_later : nat_lt (k + 1) (count task plan) ≡ false
@@ -143,11 +137,11 @@ module _ (task : TaskParts) (rules : Rules) (plan : Plan) (k : ℕ) where
     last_in d = subst Defined (sym last-is) (append-in (reads ++ effects_at task plan k ++ late ++ []) [] (append-in (reads ++ effects_at task plan k ++ late) [] d tt) tt)
 
     pub last_out : Defined (whole_at task rules plan k) → Defined (reads ++ effects_at task plan k ++ late)
-    last_out d = left_of (reads ++ effects_at task plan k ++ late) [] (left_of (reads ++ effects_at task plan k ++ late ++ []) [] (subst Defined last-is d))
+    last_out d = defined_left (reads ++ effects_at task plan k ++ late) [] (defined_left (reads ++ effects_at task plan k ++ late ++ []) [] (subst Defined last-is d))
 
   -- the sum with epsilon belongs to it
   pub late_out : Defined (whole_at task rules plan k) → Defined late
-  late_out d = right_of (reads ++ effects_at task plan k) late (left_of (reads ++ effects_at task plan k ++ late) (move_at task plan k) (left_of (reads ++ effects_at task plan k ++ late ++ move_at task plan k)
+  late_out d = defined_right (reads ++ effects_at task plan k) late (defined_left (reads ++ effects_at task plan k ++ late) (move_at task plan k) (defined_left (reads ++ effects_at task plan k ++ late ++ move_at task plan k)
       (if nat_lt (k + 1) (count task plan) then over_all_reckoned task plan (time_of task plan k) (time_of task plan (k + 1)) (state_after task plan k) (state_before task plan (k + 1)) else []) d))
 
   abbrev overs_if : List Reckoning
@@ -155,7 +149,7 @@ module _ (task : TaskParts) (rules : Rules) (plan : Plan) (k : ℕ) where
 
   -- and so do its effects and the move to the next
   pub effects_out : Defined (whole_at task rules plan k) → Defined (effects_at task plan k)
-  effects_out d = right_of reads (effects_at task plan k) (left_of (reads ++ effects_at task plan k) late (left_of (reads ++ effects_at task plan k ++ late) (move_at task plan k) (left_of (reads ++ effects_at task plan k ++ late ++ move_at task plan k) overs_if d)))
+  effects_out d = defined_right reads (effects_at task plan k) (defined_left (reads ++ effects_at task plan k) late (defined_left (reads ++ effects_at task plan k ++ late) (move_at task plan k) (defined_left (reads ++ effects_at task plan k ++ late ++ move_at task plan k) overs_if d)))
 
   pub move_out : Defined (whole_at task rules plan k) → Defined (move_at task plan k)
-  move_out d = right_of (reads ++ effects_at task plan k ++ late) (move_at task plan k) (left_of (reads ++ effects_at task plan k ++ late ++ move_at task plan k) overs_if d)
+  move_out d = defined_right (reads ++ effects_at task plan k ++ late) (move_at task plan k) (defined_left (reads ++ effects_at task plan k ++ late ++ move_at task plan k) overs_if d)

@@ -5,14 +5,13 @@ use Rattle.std.proofs.lemmas.Bool.Decides.{nat_tests}
 use Rattle.std.specs.Option.{option_map, option_and_then, unwrap_or}
 use Rattle.std.specs.List.{list_all}
 use Rattle.basics.specs.Texts.{is_blank}
-use Rattle.planner_core.specs.PlanFile.{is_mark, is_run_byte, IsRun, AreBlanks, SpelledBy, Fields, Says}
-use Rattle.planner_core.specs.LineScan.{skip_blanks, run_in_front, skip_run, behind, behind_mark, some_run, next_run, closed_by, enclosed_run, with_duration, with_name, with_start, fields_of}
-use Rattle.planner_core.proofs.Scans.{run_splits}
-
--- where a step after a step gives something, both do
-then_some : {A B : Type 0} (o : Option A) (f : A → Option B) (y : B) → option_and_then f o ≡ Some y → (x : A) × ((o ≡ Some x) × (f x ≡ Some y))
-then_some None f y e = cc
-then_some (Some x) f y e = (x, (refl, e))
+use Rattle.plan_files.specs.LineScan.{skip_blanks, run_in_front, skip_run, behind, behind_mark, some_run, next_run}
+use Rattle.plan_files.specs.Tokens.{is_mark, is_run_byte}
+use Rattle.plan_files.proofs.Scans.{run_splits}
+use Rattle.plan_files.proofs.WordsIn.{then_some}
+use Rattle.plan_files.proofs.Scanning.{run_all}
+use Rattle.planner_core.specs.PlanFile.{IsRun, AreBlanks, SpelledBy, Fields, Says}
+use Rattle.planner_core.specs.LineScan.{closed_by, enclosed_run, with_duration, with_name, with_start, fields_of}
 
 -- ---- blanks
 
@@ -45,14 +44,6 @@ mark_found : (mark : ℕ) (gap rest : List ℕ) → AreBlanks gap → is_blank m
 mark_found mark gap rest blanks written = rw (blanks_pass gap (mark ∷ rest) blanks, written) (grind (arith, nat_tests))
 
 -- ---- runs
-
-run_all : (line : List ℕ) → list_all is_run_byte (run_in_front line) ≡ true
-run_all [] = refl
-run_all (b ∷ bs) =
-    elim (is_run_byte b) as (λ t. is_run_byte b ≡ t → list_all is_run_byte (cond t (b ∷ run_in_front bs) []) ≡ true) [
-      | true ↦ λ e. and_from _ _ e (run_all bs)
-      | false ↦ λ _. refl
-    ] refl
 
 record SomeRun (front after run rest : List ℕ) : Type 0 where
   same_run : front ≡ run

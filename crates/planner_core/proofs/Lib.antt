@@ -1,7 +1,6 @@
 pub mod Led
 pub mod Asking
 pub mod Statuses
-pub mod Scans
 pub mod Fields
 pub mod PlanFiles
 pub mod Answered

@@ -4,7 +4,8 @@ use Rattle.rational.specs.Rational.{ℚ}
 use Rattle.exact_lin.specs.Reckoning.{wide_limit, Fits}
 use Rattle.plan_text.specs.Numbers.{Spells}
 use Rattle.first_path.specs.declared.model.PlanLine.{PlanLine}
-use Rattle.planner_core.specs.PlanFile.{Fields, Says, TellsLine, IsPlanFile, written_lines}
+use Rattle.plan_files.specs.Lines.{written_lines}
+use Rattle.planner_core.specs.PlanFile.{Fields, Says, TellsLine, IsPlanFile}
 use Rattle.planner_core.specs.LineScan.{fields_of}
 use Rattle.planner_core.proofs.Fields.{fields_sound, fields_found}
 use Rattle.plan_text.proofs.ReadingLemmas.{one_number}

@@ -1,24 +1,18 @@
--- Believed: the lines of a plan file, and how a line is spelled.
-use Rattle.std.specs.Prelude.{◌≡◌, ℕ, ◌+◌, Bool, IsTrue, true, not, ◌&&◌, ◌||◌, ◌==◌, List, [], ◌∷◌, ◌++◌, length, nat_lt, if◌then◌else◌}
+-- Believed: how the line of a plan file is spelled.
+use Rattle.std.specs.Prelude.{◌≡◌, ℕ, IsTrue, true, List, [], ◌∷◌, ◌++◌}
 use Rattle.std.specs.List.{list_all}
 use Rattle.basics.specs.Texts.{is_blank}
 use Rattle.rational.specs.Rational.{ℚ}
 use Rattle.exact_lin.specs.Reckoning.{wide_limit, Fits}
 use Rattle.plan_text.specs.Numbers.{Spells}
+use Rattle.plan_files.specs.Lines.{written_lines}
+use Rattle.plan_files.specs.Tokens.{is_run}
 use Rattle.first_path.specs.Grammar.{same_word}
 use Rattle.first_path.specs.declared.model.PlanLine.{PlanLine}
 
--- a parenthesis, a bracket or a colon
-abbrev pub is_mark : ℕ → Bool
-is_mark b = (b == 40) || ((b == 41) || ((b == 91) || ((b == 93) || (b == 58))))
-
--- neither a blank nor a mark
-abbrev pub is_run_byte : ℕ → Bool
-is_run_byte b = not (is_blank b) && not (is_mark b)
-
 -- some bytes that are neither blanks nor marks
 abbrev pub IsRun : List ℕ → Type 0
-IsRun bytes = (nat_lt 0 (length bytes) && list_all is_run_byte bytes) ≡ true
+IsRun bytes = is_run bytes ≡ true
 
 abbrev pub AreBlanks : List ℕ → Type 0
 AreBlanks bytes = list_all is_blank bytes ≡ true
@@ -47,35 +41,6 @@ pub record Says (line : List ℕ) (fields : Fields) : Type 0 where
   pub name : IsRun fields.name
   pub duration : IsRun fields.duration
   pub spelled : SpelledBy (tokens_of fields) line
-
--- the bytes before the first such byte, or all where there is none
-abbrev pub before : ℕ → List ℕ → List ℕ
-before byte [] = []
-before byte (b ∷ bs) = if b == byte then [] else b ∷ before byte bs
-
--- the line without its comment, which a semicolon begins
-abbrev pub before_comment : List ℕ → List ℕ
-before_comment line = before 59 line
-
--- the lines of a text, between its line feeds
-abbrev pub with_front : ℕ → List (List ℕ) → List (List ℕ)
-with_front b [] = (b ∷ []) ∷ []
-with_front b (line ∷ lines) = (b ∷ line) ∷ lines
-
-abbrev pub lines_of : List ℕ → List (List ℕ)
-lines_of [] = [] ∷ []
-lines_of (b ∷ bs) = if b == 10 then [] ∷ lines_of bs else with_front b (lines_of bs)
-
--- the lines that are not blank once comments are cut, each with its number, where the first has this one
-abbrev pub written_from : ℕ → List (List ℕ) → List (ℕ × List ℕ)
-written_from number [] = []
-written_from number (line ∷ lines) =
-    if list_all is_blank (before_comment line) then written_from (number + 1) lines
-    else (number, before_comment line) ∷ written_from (number + 1) lines
-
--- the same for a text, whose lines count from 1
-abbrev pub written_lines : List ℕ → List (ℕ × List ℕ)
-written_lines text = written_from 1 (lines_of text)
 
 -- the bytes stand for this number, whose parts in lowest terms do not pass 128 bits
 abbrev pub StandsFor : List ℕ → ℚ → Type 0

@@ -29,13 +29,13 @@ use Rattle.task_types.proofs.Comparisons.{lt_le_absurd, eq_in, eq_out}
 use Rattle.task_types.proofs.Everyone.{all_map, all_both}
 use Rattle.task_types.proofs.Happenings.{Among}
 use Rattle.task_types.proofs.Places.{map-numbers-more}
+use Rattle.task_types.proofs.Assigning.{meet_in}
 use Rattle.ordering.specs.Along.{Carried, at_first, at_time, carry, carried, tied_apart, tied_in_order, Follows, AreInOrder}
 use Rattle.ordering.specs.Laws.{Tells}
 use Rattle.ordered_course.specs.Lines.{steps_of}
 use Rattle.ordered_course.specs.Quiet.{IsQuiet}
 use Rattle.ordered_course.proofs.BlockedSteps.{last_fluent}
 use Rattle.ordered_course.proofs.Cut.{carry_append, quiet_steps}
-use Rattle.ordered_course.proofs.Groups.{meet_in}
 use Rattle.ordered_course.proofs.ListFacts.{across, second_part, true_and_false, unless}
 use Rattle.ordered_course.proofs.Owned.{are_owned}
 use Rattle.ordered_course.proofs.Passing.{parted_at}

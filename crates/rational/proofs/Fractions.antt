@@ -16,8 +16,8 @@ use Rattle.rational.proofs.Integers.{ℤ_ring}
 pub den_pos : (q : ℚ) → 0 < q.den
 den_pos q = (lowest_out q.num q.den q.lowest).0
 
-same : (q r : ℚ) → q.num ≡ r.num → q.den ≡ r.den → q ≡ r
-same q r e f = λ i. record { num = e i; den = f i; lowest = is_prop→PathP (λ j. T (is_lowest (e j) (f j))) (λ j. T_prop (is_lowest (e j) (f j))) q.lowest r.lowest i }
+pub same_parts : (q r : ℚ) → q.num ≡ r.num → q.den ≡ r.den → q ≡ r
+same_parts q r e f = λ i. record { num = e i; den = f i; lowest = is_prop→PathP (λ j. T (is_lowest (e j) (f j))) (λ j. T_prop (is_lowest (e j) (f j))) q.lowest r.lowest i }
 
 pub cancel : (x y : ℤ) (k : ℕ) → 0 < k → x *ℤ pos k ≡ y *ℤ pos k → x ≡ y
 cancel x y k h e = same_in x y (omega (arith, ups, downs))
@@ -30,7 +30,7 @@ cancel x y k h e = same_in x y (omega (arith, ups, downs))
 
 -- equal as fractions, equal as numbers
 pub equal_from_cross : (q r : ℚ) → q.num *ℤ pos r.den ≡ r.num *ℤ pos q.den → q ≡ r
-equal_from_cross q r e = same q r (cancel q.num r.num q.den (den_pos q) (subst (λ (d : ℕ). q.num *ℤ pos d ≡ r.num *ℤ pos q.den) (sym dens) e)) dens
+equal_from_cross q r e = same_parts q r (cancel q.num r.num q.den (den_pos q) (subst (λ (d : ℕ). q.num *ℤ pos d ≡ r.num *ℤ pos q.den) (sym dens) e)) dens
   where
     sizes : nat_abs q.num * r.den ≡ nat_abs r.num * q.den
     sizes = sym (unsigned_abs-mul q.num (pos r.den)) ∙ ap nat_abs e ∙ unsigned_abs-mul r.num (pos q.den)

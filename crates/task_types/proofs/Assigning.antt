@@ -37,7 +37,7 @@ is_in-left x (y ∷ ys) zs h = go (y == x) h (is_in-left x ys zs)
     go false k r = r k
 
 -- a common number
-meet_in : (x : ℕ) (xs ys : List ℕ) → is_in x xs ≡ true → is_in x ys ≡ true → meet xs ys ≡ true
+pub meet_in : (x : ℕ) (xs ys : List ℕ) → is_in x xs ≡ true → is_in x ys ≡ true → meet xs ys ≡ true
 meet_in x [] ys h k = let c : false ≡ true = h in cc
 meet_in x (y ∷ zs) ys h k = go (y == x) refl h (λ l. meet_in x zs ys l k)
   where

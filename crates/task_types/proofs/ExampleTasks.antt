@@ -1,28 +1,19 @@
 -- Small tasks are well made, and tasks broken in one place aren't.
-use Rattle.std.proofs.Common.{◌≡◌, refl, sym, ap, ◌∙◌, ℕ, zero, suc, Bool, true, false, [], length}
-use Rattle.std.specs.Prelude.{nat_lt, replicate}
+use Rattle.std.proofs.Common.{◌≡◌, refl, ◌∙◌, ℕ, zero, suc, Bool, true, false, []}
+use Rattle.std.specs.Prelude.{replicate}
 use Rattle.std.specs.List.{list_all}
 use Rattle.rational.specs.Gcd.{gcd}
 use Rattle.rational.specs.Rational.{ratio, whole, cmp_ℚ}
 use Rattle.basics.proofs.Bools.{and_in}
-use Rattle.task_types.specs.declared.conditions.Literal.{Literal}
 use Rattle.task_types.specs.declared.costs.Soft.TheVariants as soft
-use Rattle.task_types.specs.declared.formulas.FactTree.{fold-FactTree, fold-roll-FactTree}
-use Rattle.task_types.specs.declared.formulas.FactTree.TheOpen.{FactTree-F}
-use Rattle.task_types.specs.declared.formulas.FactTree.TheVariants as tree
-use Rattle.task_types.specs.declared.formulas.FactTree.TheVariants.{rolls-Is}
-use Rattle.task_types.specs.declared.parts.TaskParts.{TaskParts}
-use Rattle.task_types.specs.WellMade.{tree_fits, parts_fit, soft_fits}
+use Rattle.task_types.specs.WellMade.{soft_fits}
 use Rattle.task_types.specs.Examples.{n, done}
 use Rattle.task_types.specs.ExampleTasks.{plain, TasksAreWellMade, LimitsAreReached, NamesAreRefused, SchemasAreRefused, LongListsAreRefused, FactsAndFluentsAreRefused, ActionsAreRefused, SnapsAreRefused, NumbersAreRefused, TimedStepsAreRefused, GoalsAreRefused, TermsAreRefused, PiecesAreRefused, MetricsAreRefused}
+use Rattle.task_types.proofs.Formulas.{tree_fits-is}
 
 -- a test that fails doesn't pass
 pub no : false ≡ true → ⊥
 no e = cc
-
-tree_fits-is : (task : TaskParts) (l : Literal) → tree_fits task (tree.Is l) ≡ nat_lt l.fact (length task.facts)
-unfolding tree_fits
-tree_fits-is task l = ap (λ t. fold-FactTree Bool (parts_fit (length task.facts)) t) (sym (rolls-Is l)) ∙ fold-roll-FactTree Bool (parts_fit (length task.facts)) (FactTree-F.Is l)
 
 pub well_made : TasksAreWellMade
 unfolding gcd ratio whole cmp_ℚ

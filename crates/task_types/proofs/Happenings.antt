@@ -69,7 +69,7 @@ among-ascending x (t ∷ ts) h = ⊎_elim (λ e. inl e) (λ k. inr (among-ascend
 
 -- ---- two ascending lists of the same numbers are one
 
-below_each : (t x : ℚ) (ts : List ℚ) → AllByRecursion (λ u. t <ℚ u) ts → Among x ts → t <ℚ x
+pub below_each : (t x : ℚ) (ts : List ℚ) → AllByRecursion (λ u. t <ℚ u) ts → Among x ts → t <ℚ x
 below_each t x [] a h = absurd h
 below_each t x (u ∷ us) a (inl e) = subst (λ y. t <ℚ y) (sym e) a.0
 below_each t x (u ∷ us) a (inr h) = below_each t x us a.1 h

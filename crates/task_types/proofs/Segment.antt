@@ -32,7 +32,7 @@ use Rattle.task_types.proofs.Lines.{grown, HoldsInside, between, at_from, at_to}
 
 -- ---- values grow linearly
 
-terms-moved : (fluents r : ℕ → ℚ) (e : ℚ) (ts : List (ℕ × ℚ)) → terms_at ts (λ f. fluents f +ℚ r f *ℚ e) ≡ terms_at ts fluents +ℚ terms_at ts r *ℚ e
+pub terms-moved : (fluents r : ℕ → ℚ) (e : ℚ) (ts : List (ℕ × ℚ)) → terms_at ts (λ f. fluents f +ℚ r f *ℚ e) ≡ terms_at ts fluents +ℚ terms_at ts r *ℚ e
 terms-moved fluents r e [] = law ℚ_ring (e ∷ []) (λ e. num 0 ≐ num 0 ⊕ num 0 ⊗ e) refl
 terms-moved fluents r e (t ∷ ts) = ap (λ x. t.1 *ℚ (fluents t.0 +ℚ r t.0 *ℚ e) +ℚ x) (terms-moved fluents r e ts)
     ∙ law ℚ_ring (t.1 ∷ fluents t.0 ∷ r t.0 ∷ e ∷ terms_at ts fluents ∷ terms_at ts r ∷ []) (λ c v r e a b. c ⊗ (v ⊕ r ⊗ e) ⊕ (a ⊕ b ⊗ e) ≐ (c ⊗ v ⊕ a) ⊕ (c ⊗ r ⊕ b) ⊗ e) refl

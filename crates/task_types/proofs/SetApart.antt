@@ -5,6 +5,7 @@ use Rattle.std.specs.List.{list_any, list_all, filter, flat_map, enumerate_from,
 use Rattle.std.proofs.Math.Bool.{and_comm}
 use Rattle.basics.proofs.Bools.{and_left, and_right, and_in, or_left, or_right}
 use Rattle.basics.proofs.Naturals.{same_itself, same_out, lt_out}
+use Rattle.basics.proofs.Lists.{any_left, any_right}
 use Rattle.task_types.specs.declared.actions.Action.{Action}
 use Rattle.task_types.specs.declared.actions.Bound.{Bound}
 use Rattle.task_types.specs.declared.actions.Snap.{Snap}
@@ -73,18 +74,6 @@ in_chosen g f p (x ∷ xs) h = go (p x) h (in_chosen g f p xs)
     go false h r = in_right f (g x) (flat_map g xs) (r h)
 
 -- ---- tokens
-
-any_left : {X : Type 0} (p : X → Bool) (xs ys : List X) → list_any p xs ≡ true → list_any p (xs ++ ys) ≡ true
-any_left p [] ys h = cc
-any_left p (x ∷ xs) ys h = go (p x) h (any_left p xs ys)
-  where
-    go : (b : Bool) → (b || list_any p xs) ≡ true → (list_any p xs ≡ true → list_any p (xs ++ ys) ≡ true) → (b || list_any p (xs ++ ys)) ≡ true
-    go true h r = refl
-    go false h r = r h
-
-any_right : {X : Type 0} (p : X → Bool) (xs ys : List X) → list_any p ys ≡ true → list_any p (xs ++ ys) ≡ true
-any_right p [] ys h = h
-any_right p (x ∷ xs) ys h = or_right (p x) (list_any p (xs ++ ys)) (any_right p xs ys h)
 
 -- some number of a range, of those that are chosen, passes
 any_chosen : {X : Type 0} (p : X → Bool) (g : ℕ → X) (q : ℕ → Bool) (a n k : ℕ) → k < n → q (a + k) ≡ true → p (g (a + k)) ≡ true → list_any p (map g (filter q (range_with_len a n))) ≡ true

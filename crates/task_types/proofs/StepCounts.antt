@@ -188,7 +188,7 @@ balanced task steps done (s ∷ rest) own h e b = balanced task steps (done ++ s
         (subst (λ x. may_follow task (take (length done) steps) x (snap_of task x).kind ≡ true) there
         (every_out (length steps) (λ k. may_follow task (take k steps) (slice_index steps k) (snap_of task (slice_index steps k)).kind) (length done) h inside))
 
-none_run : (xs : List ℕ) → list_all (λ a. false) xs ≡ true → xs ≡ []
+pub none_run : (xs : List ℕ) → list_all (λ a. false) xs ≡ true → xs ≡ []
 none_run [] h = refl
 none_run (x ∷ xs) h = cc
 
@@ -213,7 +213,7 @@ ordering_steps task (s ∷ ss) = sum_by-cons (λ s. cond (not (is_timed (snap_of
     go Instant e = omega (arith, e)
     go Timed e = omega (arith, e)
 
-unnumbered_steps : (task : TaskParts) (n : ℕ) (ls : Plan) → plan_steps task (numbered n ls) ≡ plan_steps task ls
+pub unnumbered_steps : (task : TaskParts) (n : ℕ) (ls : Plan) → plan_steps task (numbered n ls) ≡ plan_steps task ls
 unnumbered_steps task n [] = refl
 unnumbered_steps task n (l ∷ ls) = ap (λ xs. line_steps task l ++ xs) (unnumbered_steps task (n + 1) ls)
 

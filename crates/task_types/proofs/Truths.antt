@@ -1,12 +1,16 @@
 -- What a formula's truth is, form by form.
-use Rattle.std.proofs.Common.{◌≡◌, refl, sym, ap, ◌∙◌, ℕ, Bool, not, List, [], ◌∷◌, map, ◌&&◌, ◌||◌}
+use Rattle.std.proofs.Common.{◌≡◌, refl, sym, ap, ◌∙◌, ℕ, Bool, true, not, List, [], ◌∷◌, map, ◌&&◌, ◌||◌}
 use Rattle.std.specs.List.{list_all, list_any}
 use Rattle.task_types.specs.declared.conditions.Literal.{Literal}
 use Rattle.task_types.specs.declared.formulas.FactTree.{FactTree, fold-FactTree, fold-roll-FactTree}
 use Rattle.task_types.specs.declared.formulas.FactTree.TheOpen.{FactTree-F}
 use Rattle.task_types.specs.declared.formulas.FactTree.TheVariants as tree
-use Rattle.task_types.specs.declared.formulas.FactTree.TheVariants.{rolls-Is, rolls-Not, rolls-And, rolls-Or}
+use Rattle.task_types.specs.declared.formulas.FactTree.TheVariants.{rolls-True, rolls-Is, rolls-Not, rolls-And, rolls-Or}
 use Rattle.task_types.specs.State.{truth, literal_holds, tree_holds}
+
+pub tree_holds-true : (facts : ℕ → Bool) → tree_holds tree.True facts ≡ true
+unfolding tree_holds
+tree_holds-true facts = ap (λ t. fold-FactTree Bool (truth facts) t) (sym rolls-True) ∙ fold-roll-FactTree Bool (truth facts) FactTree-F.True
 
 pub tree_holds-is : (l : Literal) → tree_holds (tree.Is l) ≡ literal_holds l
 unfolding tree_holds

@@ -36,16 +36,16 @@ ends-placed plan sorted p = all_map (λ p. (p.end =? end_of p.line) ≡ true) (�
 
 -- ---- distinct times are no more than times
 
-length-beside : (o : Ordering) (t u : ℚ) (us rest : List ℚ) → length rest ≤ suc (length us) → length (beside o t u us rest) ≤ suc (suc (length us))
+pub length-beside : (o : Ordering) (t u : ℚ) (us rest : List ℚ) → length rest ≤ suc (length us) → length (beside o t u us rest) ≤ suc (suc (length us))
 length-beside Less t u us rest h = omega arith
 length-beside Equal t u us rest h = omega arith
 length-beside Greater t u us rest h = omega (arith, h)
 
-length-in_place : (t : ℚ) (us : List ℚ) → length (in_place t us) ≤ suc (length us)
+pub length-in_place : (t : ℚ) (us : List ℚ) → length (in_place t us) ≤ suc (length us)
 length-in_place t [] = omega arith
 length-in_place t (u ∷ us) = length-beside (cmp_ℚ t u) t u us (in_place t us) (length-in_place t us)
 
-length-ascending : (ts : List ℚ) → length (ascending ts) ≤ length ts
+pub length-ascending : (ts : List ℚ) → length (ascending ts) ≤ length ts
 length-ascending [] = omega arith
 length-ascending (t ∷ ts) = let p : length (in_place t (ascending ts)) ≤ suc (length (ascending ts)) = length-in_place t (ascending ts) in let r : length (ascending ts) ≤ length ts = length-ascending ts in omega (arith, p, r)
 

@@ -5,19 +5,13 @@ use Rattle.std.proofs.lemmas.List.{take_all}
 use Rattle.std.proofs.lemmas.List.Folds.{list_all_at, list_any_at}
 use Rattle.std.proofs.lemmas.List.Elements.{All-head, All-tail, All-nil, All-cons, All-same}
 use Rattle.task_types.specs.declared.conditions.Literal.{Literal}
-use Rattle.task_types.specs.declared.formulas.FactTree.{FactTree, fold-FactTree, fold-roll-FactTree}
-use Rattle.task_types.specs.declared.formulas.FactTree.TheOpen.{FactTree-F}
+use Rattle.task_types.specs.declared.formulas.FactTree.{FactTree}
 use Rattle.task_types.specs.declared.formulas.FactTree.TheVariants as tree
-use Rattle.task_types.specs.declared.formulas.FactTree.TheVariants.{rolls-True}
 use Rattle.task_types.specs.State.{truth, tree_holds}
 use Rattle.task_types.specs.Touch.{tree_facts}
-use Rattle.task_types.proofs.Truths.{tree_holds-is_at, tree_holds-not, tree_holds-and, tree_holds-or}
+use Rattle.task_types.proofs.Truths.{tree_holds-is_at, tree_holds-not, tree_holds-and, tree_holds-or, tree_holds-true}
 use Rattle.task_types.proofs.FormulaFacts.{tree_facts-is, tree_facts-not, tree_facts-and, tree_facts-or}
 use Rattle.trajectory.specs.Facts.{AreCovered}
-
-pub tree_holds-true : (facts : ℕ → Bool) → tree_holds tree.True facts ≡ true
-unfolding tree_holds
-tree_holds-true facts = ap (λ t. fold-FactTree Bool (truth facts) t) (sym rolls-True) ∙ fold-roll-FactTree Bool (truth facts) FactTree-F.True
 
 pub ruleset formula_truths = (tree_holds-true, tree_holds-is_at, tree_holds-not, tree_holds-and, tree_holds-or)
 

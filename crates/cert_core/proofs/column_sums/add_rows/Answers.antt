@@ -3,9 +3,9 @@ use Rattle.std.proofs.lemmas.List.{drop_all}
 use Rattle.rational.specs.Rational.{ℚ}
 use Rattle.cert_core.specs.Checks.{claim_of}
 use Rattle.cert_core.specs.Faults.{multipliers_of}
-use Rattle.cert_core.proofs.PairLoops.{drop_item}
 use Rattle.cert_core.proofs.AddedSums.{SumsGoOn, SumsGoOn-begin, SumsGoOn-next, SumsGoOn-all, SumsGoOn-fit}
 use Rattle.cert_core.proofs.column_sums.add_rows.Goals as goal
+use Rattle.basics.proofs.Lists.{drop_item}
 
 pub loop-pair-init : goal.loop-pair-init
 loop-pair-init g c = SumsGoOn-begin g.S.Scalar.value g.S.Scalar.limit (g.P.Rows.program c.args.program.now) (claim_of g.S.Scalar.value c.args.claim) (multipliers_of g.R.Id.number_of g.S.Scalar.value c.args.pairs.now) c.begin.new.sums c.begin.ensures

@@ -2,8 +2,8 @@ use Rattle.std.proofs.Common.{ap}
 use Rattle.cert_core.specs.Checks.{claim_of, constant_terms}
 use Rattle.cert_core.specs.Faults.{multipliers_of}
 use Rattle.cert_core.proofs.PartialSums.{GoesOn-rest, GoesOn-read, GoesOn-wide}
-use Rattle.cert_core.proofs.PairLoops.{drop_item}
 use Rattle.cert_core.proofs.sums.constant_sum.Goals as goal
+use Rattle.basics.proofs.Lists.{drop_item}
 
 pub returns-in-Err : goal.returns-in-Err
 returns-in-Err g c =

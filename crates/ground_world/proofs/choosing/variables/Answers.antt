@@ -4,15 +4,15 @@ use Rattle.pddl_names.specs.Declarations.{Text}
 use Rattle.ground_world.specs.World.{variable_names, columns}
 use Rattle.ground_world.specs.Shown.{names_of, columns_of, world_of}
 use Rattle.ground_world.proofs.Groups.{variable_names-cons, columns-cons}
-use Rattle.ground_world.proofs.Steps.{dropped}
 use Rattle.ground_world.proofs.choosing.variables.Goals as goal
+use Rattle.basics.proofs.Lists.{drop_item}
 
 pub loop-group-preserved : goal.loop-group-preserved
 loop-group-preserved c =
     let g = c.group-item.result in
     let w = world_of c.args.tables.now in
     let rest = drop (c.loop-group.group-index + 1) c.args.groups.now in
-    let e = dropped c.args.groups.now c.loop-group.group-index g c.loop-group-test.true c.group-item.is in (
+    let e = drop_item c.args.groups.now c.loop-group.group-index g c.loop-group-test.true c.group-item.is in (
       ap (λ (l : List Text). l ++ variable_names rest) (c.in_ok-push_group.ensures.names ∙ ap (λ (ns : List Name). names_of c.loop-group.out ++ map (λ n. n.bytes) ns) c.as_slice.ensures)
           ∙ append_assoc (names_of c.loop-group.out) _ _
           ∙ ap (λ (l : List Text). names_of c.loop-group.out ++ l) (sym (variable_names-cons g rest) ∙ ap variable_names (sym e))
