@@ -1,4 +1,4 @@
--- Private: what a scan of a line finds next.
+-- Believed: what a scan of a line finds next.
 use Rattle.std.specs.Prelude.{ℕ, ◌==◌, List, [], ◌∷◌, if◌then◌else◌, Option, Some, None}
 use Rattle.basics.specs.Texts.{is_blank}
 use Rattle.plan_files.specs.Tokens.{is_run_byte}
