@@ -9,7 +9,7 @@ use Rattle.task_types.specs.declared.formulas.FactTree.TheVariants.{rolls-Or}
 use Rattle.task_types.specs.declared.parts.TaskParts.{TaskParts}
 use Rattle.task_types.specs.WellMade.{IsWellMade, parts_fit, tree_fits}
 use Rattle.metric_cost.specs.ExampleTask.{going}
-use Rattle.task_types.proofs.Formulas.{tree_fits-true}
+use Rattle.task_types.proofs.FormulaParts.{tree_fits-true}
 
 tree_fits-or : (task : TaskParts) → tree_fits task (tree.Or []) ≡ true
 unfolding tree_fits

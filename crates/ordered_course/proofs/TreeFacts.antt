@@ -13,7 +13,7 @@ use Rattle.task_types.proofs.Assigning.{is_in-left}
 use Rattle.task_types.proofs.FormulaFacts.{tree_facts-is, tree_facts-not, tree_facts-and, tree_facts-or}
 use Rattle.task_types.proofs.SetApart.{in_right}
 use Rattle.task_types.proofs.Truths.{tree_holds-is_at, tree_holds-not, tree_holds-and, tree_holds-or, tree_holds-true}
-use Rattle.task_types.proofs.Formulas.{each_formula}
+use Rattle.task_types.proofs.FormulaParts.{each_formula}
 
 module _ (facts there : ℕ → Bool) where
   abbrev AreSame : List ℕ → Type 0

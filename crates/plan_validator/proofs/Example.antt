@@ -4,7 +4,7 @@ use Rattle.rational.specs.Gcd.{gcd}
 use Rattle.rational.specs.Rational.{ratio, whole, cmp_ℚ}
 use Rattle.task_types.specs.WellMade.{IsWellMade}
 use Rattle.plan_validator.specs.ExampleTask.{gate}
-use Rattle.task_types.proofs.Formulas.{tree_fits-true, tree_fits-is}
+use Rattle.task_types.proofs.FormulaParts.{tree_fits-true, tree_fits-is}
 
 pub well_made : IsWellMade gate
 unfolding gcd ratio whole cmp_ℚ

@@ -9,7 +9,7 @@ use Rattle.task_types.specs.declared.costs.Soft.TheVariants as soft
 use Rattle.task_types.specs.WellMade.{soft_fits}
 use Rattle.task_types.specs.Examples.{n, done}
 use Rattle.task_types.specs.ExampleTasks.{plain, TasksAreWellMade, LimitsAreReached, NamesAreRefused, SchemasAreRefused, LongListsAreRefused, FactsAndFluentsAreRefused, ActionsAreRefused, SnapsAreRefused, NumbersAreRefused, TimedStepsAreRefused, GoalsAreRefused, TermsAreRefused, PiecesAreRefused, MetricsAreRefused}
-use Rattle.task_types.proofs.Formulas.{tree_fits-is}
+use Rattle.task_types.proofs.FormulaParts.{tree_fits-is}
 
 -- a test that fails doesn't pass
 pub no : false ≡ true → ⊥

@@ -20,7 +20,7 @@ pub mod Links
 pub mod Reasons
 pub mod Traces
 pub mod Truths
-pub mod Formulas
+pub mod FormulaParts
 pub mod Sayings
 pub mod Values
 pub mod ExampleTasks

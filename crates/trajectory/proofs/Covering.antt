@@ -10,7 +10,7 @@ use Rattle.task_types.specs.declared.parts.TaskParts.{TaskParts}
 use Rattle.task_types.specs.Touch.{tree_facts}
 use Rattle.task_types.specs.WellMade.{is_short, tree_fits}
 use Rattle.task_types.proofs.FormulaFacts.{tree_facts-true, tree_facts-is, tree_facts-not, tree_facts-and, tree_facts-or}
-use Rattle.task_types.proofs.Formulas.{each_formula, tree_fits-is, tree_fits-not, tree_fits-and, tree_fits-or}
+use Rattle.task_types.proofs.FormulaParts.{each_formula, tree_fits-is, tree_fits-not, tree_fits-and, tree_fits-or}
 use Rattle.trajectory.specs.Facts.{AreCovered}
 use Rattle.trajectory.specs.Laws.{TasksAreCovered}
 
