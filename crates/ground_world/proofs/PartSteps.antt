@@ -88,7 +88,8 @@ forall-by_number w env at vars c =
     ∙ flat_map-map (λ os. condition_parts w (env ++ paired (variable_names vars) os) c) (choice_at (columns w vars)) (numbers (choice_count (columns w vars)))
 
 pub more_numbers : (b : Bool) (f : ℕ → List Part) (before ps qs : List Part) (n : ℕ) → ps ≡ before ++ map (turned b) (flat_map f (numbers n)) → qs ≡ ps ++ map (turned b) (f n) → qs ≡ before ++ map (turned b) (flat_map f (numbers (n + 1)))
-more_numbers b f before ps qs n h k = more b f before ps qs (numbers n) n h k ∙ ap (λ l. before ++ map (turned b) (flat_map f l)) (sym (range-more 0 n))
+more_numbers b f before ps qs n h k = more b f before ps qs (numbers n) n h k
+    ∙ ap (λ l. before ++ map (turned b) (flat_map f l)) (let same : 0 + n ≡ n = omega arith in ap (λ j. numbers n ++ j ∷ []) (sym same) ∙ sym (range-more 0 n))
 
 -- ---- negation
 

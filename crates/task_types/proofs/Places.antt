@@ -2,11 +2,15 @@
 use Rattle.std.proofs.Common.{◌≡◌, refl, sym, ap, ◌∙◌, ℕ, zero, suc, ◌+◌, ◌<◌, Bool, true, false, cond, List, [], ◌∷◌, ◌++◌, length, map, take, arith, append_assoc}
 use Rattle.std.specs.Prelude.{slice_index_or, if◌then◌else◌}
 use Rattle.std.specs.List.{filter, flat_map, range_with_len, enumerate_from}
-use Rattle.std.proofs.lemmas.List.{append-nil, map-append, take_more}
+use Rattle.std.proofs.lemmas.List.{append-nil, map-append, map-id, take_more}
+use Rattle.std.proofs.lemmas.List.FromFn.{map-range_with_len_more}
 use Rattle.std.proofs.lemmas.List.Concat.{flat_map-append}
-use Rattle.basics.proofs.Lists.{map-filter-append, range-more}
+use Rattle.basics.proofs.Lists.{map-filter-append}
 use Rattle.task_types.specs.Sets.{numbers, is_in}
 use Rattle.task_types.specs.Related.{IsFlags}
+
+pub numbers-more : (i : ℕ) → numbers (i + 1) ≡ numbers i ++ i ∷ []
+numbers-more i = sym (map-id (numbers (i + 1))) ∙ map-range_with_len_more (λ k. k) 0 i i (omega arith) ∙ ap (λ l. l ++ i ∷ []) (map-id (numbers i))
 
 module _ {X : Type 0} where
   enumerate_from-more : (a : ℕ) (xs : List X) (i : ℕ) (x : X) → i < length xs → x ≡ slice_index_or xs i x → enumerate_from a (take (i + 1) xs) ≡ enumerate_from a (take i xs) ++ (a + i, x) ∷ []
@@ -40,10 +44,10 @@ pub map-filter-enumerate-more : {X Y : Type 0} (f : ℕ × X → Y) (p : ℕ × 
 map-filter-enumerate-more f p xs i x h e = ap (λ l. map f (filter p l)) (enumerate-more xs i x h e) ∙ map-filter-append f p (enumerate_from 0 (take i xs)) ((i, x) ∷ []) ∙ ap (λ l. map f (filter p (enumerate_from 0 (take i xs))) ++ l) (map-filter-one f p (i, x))
 
 pub map-filter-numbers-more : {Y : Type 0} (f : ℕ → Y) (p : ℕ → Bool) (i : ℕ) → map f (filter p (numbers (i + 1))) ≡ map f (filter p (numbers i)) ++ (if p i then f i ∷ [] else [])
-map-filter-numbers-more f p i = ap (λ l. map f (filter p l)) (range-more 0 i) ∙ map-filter-append f p (numbers i) (i ∷ []) ∙ ap (λ l. map f (filter p (numbers i)) ++ l) (map-filter-one f p i)
+map-filter-numbers-more f p i = ap (λ l. map f (filter p l)) (numbers-more i) ∙ map-filter-append f p (numbers i) (i ∷ []) ∙ ap (λ l. map f (filter p (numbers i)) ++ l) (map-filter-one f p i)
 
 pub map-numbers-more : {Y : Type 0} (f : ℕ → Y) (i : ℕ) → map f (numbers (i + 1)) ≡ map f (numbers i) ++ f i ∷ []
-map-numbers-more f i = ap (map f) (range-more 0 i) ∙ map-append f (numbers i) (i ∷ [])
+map-numbers-more f i = ap (map f) (numbers-more i) ∙ map-append f (numbers i) (i ∷ [])
 
 range-below : (p q : ℕ → Bool) (a n : ℕ) → ((k : ℕ) → k < a + n → p k ≡ q k) → filter p (range_with_len a n) ≡ filter q (range_with_len a n)
 range-below p q a zero h = refl
