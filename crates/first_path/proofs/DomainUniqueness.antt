@@ -3,7 +3,7 @@ use Rattle.std.proofs.Common.{◌≡◌, ℕ, ◌+◌, Bool, true, false, IsTrue
 use Rattle.std.specs.Str.{bytes_eq, str_to_ascii_lowercase}
 use Rattle.std.proofs.lemmas.List.{get_or-append-add, length-replicate}
 use Rattle.std.proofs.lemmas.Slice.Eq.{bytes_eq-Decides}
-use Rattle.std.proofs.Math.Option.{some-injective}
+use Rattle.std.proofs.lemmas.Option.{same_Some}
 use Rattle.rational.specs.Rational.{ℚ}
 use Rattle.sexpr_text.specs.declared.token.Token.{Token}
 use Rattle.sexpr_text.specs.declared.token.TokenKind.TheVariants as kinds
@@ -91,9 +91,9 @@ leaves_spell-one text (a ∷ b ∷ c ∷ d ∷ e ∷ f ∷ g ∷ h ∷ i ∷ j �
   same_fluent = p.fluent_read ∙ sym q.fluent_read;
   same_action = p.action_read ∙ sym q.action_read;
   same_duration = value-one text d x.duration y.duration p.duration_read q.duration_read;
-  same_side = some-injective x.over_all.side y.over_all.side (sym p.over_all_read.0 ∙ q.over_all_read.0);
+  same_side = same_Some x.over_all.side y.over_all.side (sym p.over_all_read.0 ∙ q.over_all_read.0);
   same_limit = value-one text g x.over_all.limit y.over_all.limit p.over_all_read.1 q.over_all_read.1;
-  same_direction = some-injective x.direction y.direction (sym p.direction_read ∙ q.direction_read);
+  same_direction = same_Some x.direction y.direction (sym p.direction_read ∙ q.direction_read);
   same_rate = value-one text j x.rate y.rate p.rate_read q.rate_read;
 }
 leaves_spell-one text (a ∷ b ∷ c ∷ d ∷ e ∷ f ∷ g ∷ h ∷ i ∷ j ∷ k ∷ tail) x y p q = absurd p

@@ -1,6 +1,6 @@
 -- A text spells one task of a domain at most.
 use Rattle.std.proofs.Common.{◌≡◌, ℕ, List, [], ◌∷◌, sym, ◌∙◌, ap, subst}
-use Rattle.std.proofs.Math.Option.{some-injective}
+use Rattle.std.proofs.lemmas.Option.{same_Some}
 use Rattle.sexpr_text.specs.declared.token.Token.{Token}
 use Rattle.sexpr_text.proofs.Unique.{one_list}
 use Rattle.first_path.specs.declared.model.Bound.{Bound}
@@ -27,7 +27,7 @@ leaves_spell-one text domain (a ∷ b ∷ c ∷ d ∷ e ∷ f ∷ g ∷ []) x y 
   direction = (p.direction_same ∙ sym q.direction_same) i;
   rate = (p.rate_same ∙ sym q.rate_same) i;
   over_all = (p.over_all_same ∙ sym q.over_all_same) i;
-  goal = bound-one x.goal y.goal (some-injective x.goal.side y.goal.side (sym p.goal_read.0 ∙ q.goal_read.0)) (value-one text g x.goal.limit y.goal.limit p.goal_read.1 q.goal_read.1) i;
+  goal = bound-one x.goal y.goal (same_Some x.goal.side y.goal.side (sym p.goal_read.0 ∙ q.goal_read.0)) (value-one text g x.goal.limit y.goal.limit p.goal_read.1 q.goal_read.1) i;
 }
 leaves_spell-one text domain (a ∷ b ∷ c ∷ d ∷ e ∷ f ∷ g ∷ k ∷ tail) x y p q = absurd p
 

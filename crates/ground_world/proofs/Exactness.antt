@@ -1,7 +1,7 @@
 -- The form that an expression is reckoned as has the expression's exact value.
 use Rattle.std.proofs.Common.{◌≡◌, refl, sym, ap, ap₂, subst, ◌∙◌, ℕ, arith, Bool, true, false, not, nat_le, List, [], ◌∷◌, ◌++◌, map, length, Option, Some, None, is_some, if◌then◌else◌, pos}
 use Rattle.std.proofs.lemmas.Bool.Decides.{nat_tests}
-use Rattle.std.proofs.Math.Option.{some-injective}
+use Rattle.std.proofs.lemmas.Option.{same_Some}
 use Rattle.rational.specs.Rational.{ℚ, zeroℚ, whole, ◌+ℚ◌, ◌*ℚ◌, ◌-ℚ◌, neg_ℚ, inverse}
 use Rattle.rational.proofs.Field.{add_comm, zero_add, neg_is_times, ℚ_ring}
 use Rattle.rational.proofs.Ring.{law, num, ◌⊕◌, ◌⊗◌, ◌≐◌}
@@ -22,7 +22,7 @@ none-not : {A B : Type 0} (a : A) → None ≡ Some a → B
 none-not a e = let P : Bool → Type 0 = λ b. elim b [ true ↦ ⊥ | false ↦ Unit {0} ] in absurd (subst P (ap is_some e) tt)
 
 if-some : {A : Type 0} (b : Bool) (a h : A) → (if b then Some a else None) ≡ Some h → a ≡ h
-if-some true a h e = some-injective a h e
+if-some true a h e = same_Some a h e
 if-some false a h e = none-not h e
 
 either-some : {A B : Type 0} (o : Option A) (k : A → Option B) (h : B) → either None k o ≡ Some h
@@ -56,7 +56,7 @@ module _ (x : ℕ → ℚ) where
       ∙ law ℚ_ring (y ∷ at f ∷ []) (λ a b. (num 0 ⊕ num 0) ⊕ a ⊗ b ≐ a ⊗ b) refl
 
   sum-exact : (f : LinearForm) (gs : List LinearForm) (h : LinearForm) → sum_forms f gs ≡ Some h → at h ≡ at f +ℚ sum_of (map at gs)
-  sum-exact f [] h e = sym (ap at (some-injective f h e)) ∙ law ℚ_ring (at f ∷ []) (λ a. a ≐ a ⊕ num 0) refl
+  sum-exact f [] h e = sym (ap at (same_Some f h e)) ∙ law ℚ_ring (at f ∷ []) (λ a. a ≐ a ⊕ num 0) refl
   sum-exact f (g ∷ gs) h e =
       let s = then-some (added f (whole (pos 1)) g) (λ k. sum_forms k gs) h e in
       sum-exact s.0 gs h s.2 ∙ ap (λ q. q +ℚ sum_of (map at gs)) (added-exact f (whole (pos 1)) g s.0 s.1)
@@ -79,7 +79,7 @@ module _ (x : ℕ → ℚ) where
 
   products-exact : (f : LinearForm) (gs : List LinearForm) (h : LinearForm) → product_forms f gs ≡ Some h
       → at h ≡ at f *ℚ product_of (map at gs)
-  products-exact f [] h e = sym (ap at (some-injective f h e)) ∙ law ℚ_ring (at f ∷ []) (λ a. a ≐ a ⊗ num 1) refl
+  products-exact f [] h e = sym (ap at (same_Some f h e)) ∙ law ℚ_ring (at f ∷ []) (λ a. a ≐ a ⊗ num 1) refl
   products-exact f (g ∷ gs) h e =
       let s = then-some (product_form f g) (λ k. product_forms k gs) h e in
       products-exact s.0 gs h s.2 ∙ ap (λ q. q *ℚ product_of (map at gs)) (product-exact f g s.0 s.1)
@@ -123,7 +123,7 @@ module _ (w : World) (us : Unknowns) (env : Env) (x : ℕ → ℚ) where
   IsExact e = (f : LinearForm) → (reckoned w us env e).value ≡ Some f → form_at f x ≡ exact w us env x e
 
   leaf : (e : ExprTree) (g : LinearForm) (q : ℚ) → (reckoned w us env e).value ≡ Some g → form_at g x ≡ q → exact w us env x e ≡ q → IsExact e
-  leaf e g q v k i f h = ap (λ (j : LinearForm). form_at j x) (some-injective f g (sym h ∙ v)) ∙ k ∙ sym i
+  leaf e g q v k i f h = ap (λ (j : LinearForm). form_at j x) (same_Some f g (sym h ∙ v)) ∙ k ∙ sym i
 
   fluent-exact : (a : GroundAtom) → form_at (fluent_form w a) x ≡ fluent_value w x a
   fluent-exact a = by (w.is_static_function (symbol a))
@@ -138,11 +138,11 @@ module _ (w : World) (us : Unknowns) (env : Env) (x : ℕ → ℚ) where
   all-exact : (es : List ((t : ExprTree) × IsExact t)) (fs : List LinearForm)
       → all_values (map (reckoned w us env) (map (λ e. e.0) es)) ≡ Some fs
       → map (λ (f : LinearForm). form_at f x) fs ≡ map (exact w us env x) (map (λ e. e.0) es)
-  all-exact [] fs h = sym (ap (map (λ (f : LinearForm). form_at f x)) (some-injective [] fs h))
+  all-exact [] fs h = sym (ap (map (λ (f : LinearForm). form_at f x)) (same_Some [] fs h))
   all-exact (e ∷ es) fs h =
       let s = either-some ((reckoned w us env e.0).value) (λ f. either None (λ gs. Some (f ∷ gs)) (all_values (map (reckoned w us env) (map (λ p. p.0) es)))) fs h in
       let t = either-some (all_values (map (reckoned w us env) (map (λ p. p.0) es))) (λ gs. Some (s.0 ∷ gs)) fs s.2 in
-      sym (ap (map (λ (f : LinearForm). form_at f x)) (some-injective (s.0 ∷ t.0) fs t.2)) ∙ ap₂ (λ q qs. q ∷ qs) (e.1 s.0 s.1) (all-exact es t.0 t.1)
+      sym (ap (map (λ (f : LinearForm). form_at f x)) (same_Some (s.0 ∷ t.0) fs t.2)) ∙ ap₂ (λ q qs. q ∷ qs) (e.1 s.0 s.1) (all-exact es t.0 t.1)
 
   -- an operation on several parts, whose exact value is that of the operation on numbers
   list-exact : (at : ℕ) (operation : List LinearForm → Option LinearForm) (total : List ℚ → ℚ)
@@ -159,7 +159,7 @@ module _ (w : World) (us : Unknowns) (env : Env) (x : ℕ → ℚ) where
   negative_part-exact l il h at k =
       let s = either-some (all_values (reckoned w us env l ∷ [])) minus_form h k in
       let t = either-some ((reckoned w us env l).value) (λ f. either None (λ gs. Some (f ∷ gs)) (Some [])) s.0 s.1 in
-      negative-exact x t.0 h (ap minus_form (some-injective (t.0 ∷ []) s.0 t.2) ∙ s.2) ∙ ap neg_ℚ (il t.0 t.1)
+      negative-exact x t.0 h (ap minus_form (same_Some (t.0 ∷ []) s.0 t.2) ∙ s.2) ∙ ap neg_ℚ (il t.0 t.1)
 
   -- an operation on two parts
   two-exact : (at : ℕ) (operation : List LinearForm → Option LinearForm) (total : ℚ → ℚ → ℚ)
@@ -172,7 +172,7 @@ module _ (w : World) (us : Unknowns) (env : Env) (x : ℕ → ℚ) where
       let t = either-some ((reckoned w us env l).value) (λ f. either None (λ gs. Some (f ∷ gs)) (all_values (reckoned w us env r ∷ []))) s.0 s.1 in
       let u = either-some (all_values (reckoned w us env r ∷ [])) (λ gs. Some (t.0 ∷ gs)) s.0 t.2 in
       let v = either-some ((reckoned w us env r).value) (λ f. either None (λ gs. Some (f ∷ gs)) (Some [])) u.0 u.1 in
-      good t.0 v.0 h (ap (λ gs. operation (t.0 ∷ gs)) (some-injective (v.0 ∷ []) u.0 v.2) ∙ ap operation (some-injective (t.0 ∷ u.0) s.0 u.2) ∙ s.2)
+      good t.0 v.0 h (ap (λ gs. operation (t.0 ∷ gs)) (same_Some (v.0 ∷ []) u.0 v.2) ∙ ap operation (same_Some (t.0 ∷ u.0) s.0 u.2) ∙ s.2)
       ∙ ap₂ total (il t.0 t.1) (ir v.0 v.1)
 
   quotients-exact : (at : ℕ) (l r : ExprTree) → IsExact l → IsExact r → (h : LinearForm)

@@ -1,6 +1,6 @@
 -- The snap actions of a well made task are those of its actions, each of one.
 use Rattle.std.proofs.Common.{◌≡◌, refl, sym, ap, subst, ◌∙◌, ℕ, zero, suc, ◌+◌, ◌<◌, ◌≤◌, Bool, true, false, ◌&&◌, List, [], ◌∷◌, map, fold, length, arith, inl, inr, Option, Some, None}
-use Rattle.std.proofs.Math.Option.{some-injective}
+use Rattle.std.proofs.lemmas.Option.{same_Some}
 use Rattle.std.specs.Prelude.{◌==◌, ◌⊎◌, slice_index_or, if◌then◌else◌, is_some, is_none}
 use Rattle.rational.specs.Rational.{ℚ}
 use Rattle.task_types.specs.declared.actions.Action.{Action}
@@ -149,7 +149,7 @@ module _ (task : TaskParts) (numbered : are_numbered task 0 0 task.actions ≡ t
     where
       clash : Start ≡ Instant → ⊥
       clash c = cc
-  start_of s a b k o (inr (inl h)) = subst (λ c. ((action_of task c).start ≡ s) × ((e : ℕ) × ((action_of task c).end ≡ Some e))) (some-injective b a (sym h.0.action ∙ o)) h.1
+  start_of s a b k o (inr (inl h)) = subst (λ c. ((action_of task c).start ≡ s) × ((e : ℕ) × ((action_of task c).end ≡ Some e))) (same_Some b a (sym h.0.action ∙ o)) h.1
   start_of s a b k o (inr (inr h)) = absurd (clash (sym k ∙ h.0.kind))
     where
       clash : Start ≡ End → ⊥
@@ -164,10 +164,10 @@ module _ (task : TaskParts) (numbered : are_numbered task 0 0 task.actions ≡ t
     where
       clash : End ≡ Start → ⊥
       clash c = cc
-  ends_at s a b k o (inr (inr h)) = subst (λ c. (action_of task c).end ≡ Some s) (some-injective b a (sym h.0.action ∙ o)) h.1
+  ends_at s a b k o (inr (inr h)) = subst (λ c. (action_of task c).end ≡ Some s) (same_Some b a (sym h.0.action ∙ o)) h.1
 
   once : (s a b : ℕ) → (snap_of task s).kind ≡ Instant → (snap_of task s).action ≡ Some a → Belongs task s (action_of task b) b → ((action_of task a).start ≡ s) × ((action_of task a).end ≡ None)
-  once s a b k o (inl h) = subst (λ c. ((action_of task c).start ≡ s) × ((action_of task c).end ≡ None)) (some-injective b a (sym h.0.action ∙ o)) h.1
+  once s a b k o (inl h) = subst (λ c. ((action_of task c).start ≡ s) × ((action_of task c).end ≡ None)) (same_Some b a (sym h.0.action ∙ o)) h.1
   once s a b k o (inr (inl h)) = absurd (clash (sym k ∙ h.0.kind))
     where
       clash : Instant ≡ Start → ⊥
@@ -182,7 +182,7 @@ module _ (task : TaskParts) (numbered : are_numbered task 0 0 task.actions ≡ t
     starts = λ s a k o. let b = belongs s Start k refl in start_of s a b.0 k o b.1;
     ends = λ s a k o. let b = belongs s End k refl in ends_at s a b.0 k o b.1;
     instants = λ s a k o. let b = belongs s Instant k refl in once s a b.0 k o b.1;
-    own_end = λ a b s h k. some-injective a b (sym (end_of a s h).action ∙ (end_of b s k).action);
+    own_end = λ a b s h k. same_Some a b (sym (end_of a s h).action ∙ (end_of b s k).action);
     end_kind = λ a s h. (end_of a s h).kind;
   }
 

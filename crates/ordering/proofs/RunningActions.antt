@@ -5,7 +5,7 @@ use Rattle.std.specs.List.{filter, remove}
 use Rattle.std.proofs.lemmas.Bool.Decides.{nat_tests}
 use Rattle.std.proofs.lemmas.List.{append-nil}
 use Rattle.std.proofs.lemmas.List.Folds.{list_any-append}
-use Rattle.std.proofs.Math.Option.{some-injective}
+use Rattle.std.proofs.lemmas.Option.{same_Some}
 use Rattle.basics.proofs.Bools.{and_left, and_right, and_in, or_left, or_right, or_false_left, or_false_right, not_true}
 use Rattle.task_types.specs.declared.actions.SnapKind.{SnapKind}
 use Rattle.task_types.specs.declared.actions.SnapKind.TheVariants.{Start, End, Instant, Timed}
@@ -18,7 +18,7 @@ use Rattle.task_types.proofs.StepCounts.{other_way, distinct_more, chosen_not_in
 
 pub in_at_place : (xs : List ℕ) (k a : ℕ) → slice_get xs k ≡ Some a → is_in a xs ≡ true
 in_at_place [] k a e = let c : None ≡ Some a = e in cc
-in_at_place (x ∷ xs) zero a e = or_left (x == a) (is_in a xs) (rw (some-injective x a e) (same_itself a))
+in_at_place (x ∷ xs) zero a e = or_left (x == a) (is_in a xs) (rw (same_Some x a e) (same_itself a))
 in_at_place (x ∷ xs) (suc k) a e = or_right (x == a) (is_in a xs) (in_at_place xs k a e)
 
 apart : (a x : ℕ) → (x == a) ≡ false → not (is_in x (a ∷ [])) ≡ true
@@ -26,7 +26,7 @@ apart a x e = rw (other_way a x, e) refl
 
 pub without_at : (xs : List ℕ) (k a : ℕ) → are_distinct xs ≡ true → slice_get xs k ≡ Some a → without a xs ≡ remove xs k
 without_at [] k a d e = let c : None ≡ Some a = e in cc
-without_at (x ∷ xs) zero a d e = go (some-injective x a e)
+without_at (x ∷ xs) zero a d e = go (same_Some x a e)
   where
     equal : (b c : ℕ) → c ≡ b → (b == c) ≡ true
     equal b c f = grind (arith, nat_tests)

@@ -1,6 +1,6 @@
 -- Where the desk tells its files, the one right answer to them is told, but for faults.
 use Rattle.std.proofs.Common.{◌≡◌, ◌≤◌, ◌<◌, ◌⊎◌, inl, inr, ℕ, List, [], ◌∷◌, length, Option, Some, None, Ok, Err, sym, ◌∙◌, ap, subst, arith}
-use Rattle.std.proofs.Math.Option.{some-injective}
+use Rattle.std.proofs.lemmas.Option.{same_Some}
 use Rattle.std.specs.Option.{IsSomeAnd}
 use Rattle.outside.specs.Fetching.{Files, Answer, MayAnswer, DeskView}
 use Rattle.outside.specs.Putting.{SinkView, sink_with}
@@ -30,7 +30,7 @@ record GoesOn (files : Files) (next : List ℕ → Work) (bytes : List ℕ) (sai
 goes_on : (files : Files) (name : List ℕ) (next : List ℕ → Work) (bytes other : List ℕ) (answers : List Answer) (said : Said) → files name ≡ Some bytes → files name ≡ Some other
     → AreAnswers (Some files) (next other) answers → IsReply (next other) answers said → GoesOn files next bytes said
 goes_on files name next bytes other answers said has told asked replied =
-    let same : other ≡ bytes = some-injective other bytes (sym told ∙ has) in
+    let same : other ≡ bytes = same_Some other bytes (sym told ∙ has) in
     record {
       answers = answers;
       asked = subst (λ (b : List ℕ). AreAnswers (Some files) (next b) answers) same asked;
@@ -47,7 +47,7 @@ step : (files : Files) (role : Role) (name : List ℕ) (next : List ℕ → Work
     → AreAnswers (Some files) (Asks role name next) answers → IsReply (Asks role name next) answers said → (said ≡ read_fault name) ⊎ GoesOn files next bytes said
 step files role name next bytes [] said has asked e = absurd asked
 step files role name next bytes (Ok other ∷ rest) said has asked e = inr (goes_on files name next bytes other rest said has.1 asked.0.1 asked.1 e)
-step files role name next bytes (Err Failed ∷ []) said has asked e = inl (sym (some-injective (read_fault name) said e))
+step files role name next bytes (Err Failed ∷ []) said has asked e = inl (sym (same_Some (read_fault name) said e))
 step files role name next bytes (Err (Long count) ∷ []) said has asked e = absurd (not_long files name bytes count has.1 has.0 asked.0 asked.1)
 step files role name next bytes (Err Memory ∷ []) said has asked e = cc
 step files role name next bytes (Err Failed ∷ a ∷ rest) said has asked e = absurd asked
