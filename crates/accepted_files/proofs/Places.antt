@@ -1,6 +1,6 @@
 -- Where declared names stand among the objects and among all bindings of a predicate or a function.
 use Rattle.std.proofs.Common.{◌≡◌, refl, sym, ap, subst, ◌∙◌, ℕ, ◌+◌, ◌==◌, Bool, true, false, not, ◌||◌, if◌then◌else◌, cond, List, [], ◌∷◌, ◌++◌, map, Some, arith}
-use Rattle.std.proofs.Math.Option.{some-injective}
+use Rattle.std.proofs.lemmas.Option.{same_Some}
 use Rattle.std.specs.List.{list_any, flat_map, filter, enumerate_from, position_or_len}
 use Rattle.std.specs.Str.{bytes_eq}
 use Rattle.basics.proofs.Bools.{and_left, and_right, or_left, or_right}
@@ -38,7 +38,7 @@ object_fits types t (o ∷ os) k m n s v f e = by (bytes_eq n o.0) refl (λ late
     by : (b : Bool) → bytes_eq n o.0 ≡ b → (value_of os n ≡ Some s → m ≡ (k + 1) + position_or_len (bytes_eq n) (names_in os) → list_any (λ x. x == m) (numbers rest) ≡ true)
         → list_any (λ x. x == m) (numbers (cond (fits types o.1 t) ((k, o) ∷ rest) rest)) ≡ true
     by true h onward =
-        let own : o.1 ≡ s = some-injective o.1 s (sym (ap (λ b. if b then Some o.1 else value_of os n) h) ∙ v) in
+        let own : o.1 ≡ s = same_Some o.1 s (sym (ap (λ b. if b then Some o.1 else value_of os n) h) ∙ v) in
         let keeps : fits types o.1 t ≡ true = ap (λ u. fits types u t) own ∙ f in
         let first : position_or_len (bytes_eq n) (names_in (o ∷ os)) ≡ 0 = ap (λ b. cond (not b) (1 + position_or_len (bytes_eq n) (names_in os)) 0) h in
         let place : k ≡ m = (let z : k ≡ k + 0 = omega arith in z ∙ ap (λ i. k + i) (sym first) ∙ sym e) in
@@ -123,7 +123,7 @@ binding_found w (g ∷ gs) k m n sorts os v f e = by (bytes_eq n g.0) refl (λ l
 
     by : (b : Bool) → bytes_eq n g.0 ≡ b → (value_of gs n ≡ Some sorts → m ≡ (k + 1) + position_or_len (bytes_eq n) names → among others (m ∷ os) ≡ true) → among (bound_to w (k, g) ++ others) (m ∷ os) ≡ true
     by true h onward =
-        let own : g.1 ≡ sorts = some-injective g.1 sorts (sym (ap (λ b. if b then Some g.1 else value_of gs n) h) ∙ v) in
+        let own : g.1 ≡ sorts = same_Some g.1 sorts (sym (ap (λ b. if b then Some g.1 else value_of gs n) h) ∙ v) in
         let first : position_or_len (bytes_eq n) (g.0 ∷ names) ≡ 0 = ap (λ b. cond (not b) (1 + position_or_len (bytes_eq n) names) 0) h in
         let place : m ≡ k = (let z : k + 0 ≡ k = omega arith in e ∙ ap (λ i. k + i) first ∙ z) in
         let fit : arguments_fit os (map w.fitting g.1) ≡ true = ap (λ l. arguments_fit os (map w.fitting l)) own ∙ f in
