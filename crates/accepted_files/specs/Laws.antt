@@ -1,8 +1,14 @@
--- Believed: what is claimed of domains and problems in which no phase finds an offence.
-use Rattle.std.specs.Prelude.{IsTrue}
+-- Believed: what is claimed of domains and problems in which no phase finds an offence, and of those that readers accept.
+use Rattle.std.specs.Prelude.{ℕ, IsTrue, List}
 use Rattle.std.specs.List.{flat_map, list_all}
+use Rattle.task_types.specs.WellMade.{is_task_name}
 use Rattle.pddl_terms.specs.declared.files.Domain.{Domain}
 use Rattle.pddl_terms.specs.declared.files.Problem.{Problem}
+use Rattle.pddl_names.specs.Calls.{names_of}
+use Rattle.pddl_names.specs.Files.{texts_of}
+use Rattle.pddl_domain.specs.Accepted.{action_names}
+use Rattle.pddl_domain.specs.Readings.{IsDomain}
+use Rattle.pddl_problem.specs.Readings.{IsProblem}
 use Rattle.ground_world.specs.FirstState.{given_value, world}
 use Rattle.grounder.specs.Instances.{instances_of}
 use Rattle.grounder.specs.Accepted.{is_binding, instance_atoms}
@@ -19,3 +25,23 @@ pub record AtomsAreBindings (d : Domain) (p : Problem) : Type 0 where
 
 abbrev pub CleanAtomsAreBindings : Type 0
 CleanAtomsAreBindings = (d : Domain) (p : Problem) → IsClean d p → TypesAreNamed d → AtomsAreBindings d p
+
+-- ---- what readers accept
+
+-- No phase finds an offence.
+abbrev pub AcceptedFilesAreClean : Type 0
+AcceptedFilesAreClean = (domain problem : List ℕ) (d : Domain) (p : Problem) → IsDomain domain d → IsProblem d problem p → IsClean d p
+
+-- The names of types, constants, objects and actions are names of a task: in lower case, not empty and not too long.
+pub record HaveTaskNames (d : Domain) (p : Problem) : Type 0 where
+  pub types : IsTrue (list_all is_task_name (texts_of (names_of d.types)))
+  pub constants : IsTrue (list_all is_task_name (texts_of (names_of d.constants)))
+  pub objects : IsTrue (list_all is_task_name (texts_of (names_of p.objects)))
+  pub actions : IsTrue (list_all is_task_name (action_names d))
+
+abbrev pub NamesAreTaskNames : Type 0
+NamesAreTaskNames = (domain problem : List ℕ) (d : Domain) (p : Problem) → IsDomain domain d → IsProblem d problem p → HaveTaskNames d p
+
+-- And so each type has a name.
+abbrev pub AcceptedTypesAreNamed : Type 0
+AcceptedTypesAreNamed = (d : Domain) (p : Problem) → HaveTaskNames d p → TypesAreNamed d
