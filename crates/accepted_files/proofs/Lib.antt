@@ -11,3 +11,4 @@ pub mod ActionNames
 pub mod TypedNames
 pub mod FileNames
 pub mod Cleaning
+pub mod PartSizes

@@ -1,15 +1,19 @@
 -- Believed: what is claimed of domains and problems in which no phase finds an offence, and of those that readers accept.
-use Rattle.std.specs.Prelude.{ℕ, IsTrue, List}
-use Rattle.std.specs.List.{flat_map, list_all}
+use Rattle.std.specs.Prelude.{ℕ, ◌*◌, ◌≤◌, IsTrue, List, length}
+use Rattle.std.specs.List.{AllByRecursion, flat_map, list_all}
 use Rattle.task_types.specs.WellMade.{is_task_name}
+use Rattle.pddl_terms.specs.declared.files.ActionDef.{ActionDef}
 use Rattle.pddl_terms.specs.declared.files.Domain.{Domain}
 use Rattle.pddl_terms.specs.declared.files.Problem.{Problem}
+use Rattle.pddl_names.specs.Declarations.{Signature, declared_predicates, declared_functions}
 use Rattle.pddl_names.specs.Calls.{names_of}
 use Rattle.pddl_names.specs.Files.{texts_of}
 use Rattle.pddl_domain.specs.Accepted.{action_names}
 use Rattle.pddl_domain.specs.Readings.{IsDomain}
 use Rattle.pddl_problem.specs.Readings.{IsProblem}
 use Rattle.ground_world.specs.FirstState.{given_value, world}
+use Rattle.ground_world.specs.Changes.{changes}
+use Rattle.ground_world.specs.Conditions.{body_bounds}
 use Rattle.grounder.specs.Instances.{instances_of}
 use Rattle.grounder.specs.Accepted.{is_binding, instance_atoms}
 use Rattle.grounder.specs.Task.{mentioned_atoms, timings}
@@ -45,3 +49,23 @@ NamesAreTaskNames = (domain problem : List ℕ) (d : Domain) (p : Problem) → I
 -- And so each type has a name.
 abbrev pub AcceptedTypesAreNamed : Type 0
 AcceptedTypesAreNamed = (d : Domain) (p : Problem) → HaveTaskNames d p → TypesAreNamed d
+
+-- A predicate or a function whose name has no more bytes than this, and which has no more parameters.
+abbrev pub IsSymbolWithin : ℕ → Signature → Type 0
+IsSymbolWithin bytes s = (length s.0 ≤ bytes) × (length s.1 ≤ bytes)
+
+-- An action with no more changes than this, and half as many bounds of its duration: a bound takes a list and its mark.
+pub record IsActionWithin (bytes : ℕ) (a : ActionDef) : Type 0 where
+  pub bounds : length (body_bounds a.body) * 2 ≤ bytes
+  pub changes : length (changes a) ≤ bytes
+
+-- No part of a domain and of a problem is longer than its text.
+pub record PartsAreNoLonger (d : Domain) (p : Problem) (domain_bytes problem_bytes : ℕ) : Type 0 where
+  pub predicates : AllByRecursion (IsSymbolWithin domain_bytes) (declared_predicates d)
+  pub functions : AllByRecursion (IsSymbolWithin domain_bytes) (declared_functions d)
+  pub actions : AllByRecursion (IsActionWithin domain_bytes) d.actions
+  pub entries : length p.init ≤ problem_bytes
+
+abbrev pub AcceptedPartsAreNoLonger : Type 0
+AcceptedPartsAreNoLonger = (domain problem : List ℕ) (d : Domain) (p : Problem) → IsDomain domain d → IsProblem d problem p
+    → PartsAreNoLonger d p (length domain) (length problem)

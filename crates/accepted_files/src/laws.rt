@@ -5,6 +5,7 @@ ghost use Rattle.accepted_files.specs.Laws.{
   AcceptedFilesAreClean,
   NamesAreTaskNames,
   AcceptedTypesAreNamed,
+  AcceptedPartsAreNoLonger,
 };
 
 /// Where no phase of the readers finds an offence, every ground atom is a binding of its predicate, with objects that
@@ -23,4 +24,10 @@ pub fn accepted_files_are_clean()
 pub fn accepted_names_are_task_names()
     ensures names { NamesAreTaskNames }
     ensures types { AcceptedTypesAreNamed }
+{}
+
+/// A name, a list of parameters, the changes of an action and the entries of `:init` that readers accept are no longer than
+/// the text, and an action has half as many bounds of its duration.
+pub fn accepted_parts_are_no_longer()
+    ensures { AcceptedPartsAreNoLonger }
 {}
