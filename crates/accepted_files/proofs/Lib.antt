@@ -12,3 +12,6 @@ pub mod TypedNames
 pub mod FileNames
 pub mod Cleaning
 pub mod PartSizes
+pub mod Costs
+pub mod Distinct
+pub mod Promises

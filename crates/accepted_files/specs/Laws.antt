@@ -1,6 +1,8 @@
 -- Believed: what is claimed of domains and problems in which no phase finds an offence, and of those that readers accept.
-use Rattle.std.specs.Prelude.{ℕ, ◌*◌, ◌≤◌, IsTrue, List, length}
+use Rattle.std.specs.Prelude.{ℕ, ◌*◌, ◌≤◌, ◌||◌, nat_lt, IsTrue, List, length}
 use Rattle.std.specs.List.{AllByRecursion, flat_map, list_all}
+use Rattle.rational.specs.Rational.{zeroℚ}
+use Rattle.task_types.specs.Tests.{◌≤?◌}
 use Rattle.task_types.specs.WellMade.{is_task_name}
 use Rattle.pddl_terms.specs.declared.files.ActionDef.{ActionDef}
 use Rattle.pddl_terms.specs.declared.files.Domain.{Domain}
@@ -14,8 +16,10 @@ use Rattle.pddl_problem.specs.Readings.{IsProblem}
 use Rattle.ground_world.specs.FirstState.{given_value, world}
 use Rattle.ground_world.specs.Changes.{changes}
 use Rattle.ground_world.specs.Conditions.{body_bounds}
+use Rattle.ground_world.specs.Expressions.{own_unknown}
+use Rattle.ground_world.specs.Leaves.{costs, minimised}
 use Rattle.grounder.specs.Instances.{instances_of}
-use Rattle.grounder.specs.Accepted.{is_binding, instance_atoms}
+use Rattle.grounder.specs.Accepted.{is_binding, instance_atoms, curve_fits, IsAccepted}
 use Rattle.grounder.specs.Task.{mentioned_atoms, timings}
 use Rattle.accepted_files.specs.Clean.{IsClean, TypesAreNamed}
 
@@ -69,3 +73,21 @@ pub record PartsAreNoLonger (d : Domain) (p : Problem) (domain_bytes problem_byt
 abbrev pub AcceptedPartsAreNoLonger : Type 0
 AcceptedPartsAreNoLonger = (domain problem : List ℕ) (d : Domain) (p : Problem) → IsDomain domain d → IsProblem d problem p
     → PartsAreNoLonger d p (length domain) (length problem)
+
+-- Time costs rise, and those in pieces have 1 to 16 of them.
+abbrev pub AcceptedTimeCostsFit : Type 0
+AcceptedTimeCostsFit = (domain problem : List ℕ) (d : Domain) (p : Problem) → IsDomain domain d → IsProblem d problem p
+    → IsTrue (list_all (λ c. curve_fits c.curve) (costs p))
+
+-- the longest text of a domain or a problem
+abbrev pub text_limit : ℕ
+text_limit = 1048576
+
+-- no preference, time cost or total time has a weight below 0
+abbrev pub WeightsAreNotNegative : Domain → Problem → Type 0
+WeightsAreNotNegative d p = IsTrue (list_all (λ t. nat_lt t.0 (own_unknown (world d p)) || (zeroℚ ≤? t.1)) (minimised (world d p) d p).terms)
+
+-- What the readers accept the grounder accepts, where no text is too long and no weight is below 0.
+abbrev pub ReadersPromise : Type 0
+ReadersPromise = (domain problem : List ℕ) (d : Domain) (p : Problem) → length domain ≤ text_limit → length problem ≤ text_limit
+    → IsDomain domain d → IsProblem d problem p → WeightsAreNotNegative d p → IsAccepted d p

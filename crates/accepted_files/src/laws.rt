@@ -6,6 +6,8 @@ ghost use Rattle.accepted_files.specs.Laws.{
   NamesAreTaskNames,
   AcceptedTypesAreNamed,
   AcceptedPartsAreNoLonger,
+  AcceptedTimeCostsFit,
+  ReadersPromise,
 };
 
 /// Where no phase of the readers finds an offence, every ground atom is a binding of its predicate, with objects that
@@ -30,4 +32,16 @@ pub fn accepted_names_are_task_names()
 /// the text, and an action has half as many bounds of its duration.
 pub fn accepted_parts_are_no_longer()
     ensures { AcceptedPartsAreNoLonger }
+{}
+
+/// The time costs that readers accept rise: in three numbers `0 <= soft < hard` and `0 <= top`, or 1 to 16 pieces, each
+/// of which ends later than the one before it and costs no less.
+pub fn accepted_time_costs_fit()
+    ensures { AcceptedTimeCostsFit }
+{}
+
+/// A domain and a problem that their readers accept are such as the grounder asks for, where neither text has more than
+/// 1,048,576 bytes and the metric gives no weight below 0 to a preference, a time cost or the total time.
+pub fn readers_promise()
+    ensures { ReadersPromise }
 {}
