@@ -1,5 +1,5 @@
 -- Where no phase finds an offence in an action, all ground atoms of its bindings are bindings of their predicates.
-use Rattle.std.proofs.Common.{◌≡◌, refl, sym, subst, ◌∙◌, ℕ, true, List, [], ◌∷◌, ◌++◌, map, Some, None}
+use Rattle.std.proofs.Common.{◌≡◌, refl, sym, subst, ◌∙◌, ℕ, true, List, [], ◌++◌, map, Some, None}
 use Rattle.std.specs.List.{AllByRecursion as Each, flat_map, list_all}
 use Rattle.std.specs.Option.{option_map_or}
 use Rattle.basics.proofs.Lists.{all_in, each_append, each_first, nothing_left, nothing_right, nothing_each}

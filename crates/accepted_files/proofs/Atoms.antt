@@ -1,6 +1,7 @@
 -- Where the phases of names, types and forms find no offence in an atom or a fluent, its ground atom is a binding of what
 -- it names.
-use Rattle.std.proofs.Common.{◌≡◌, ◌⊎◌, inl, inr, refl, sym, ap, subst, ◌∙◌, ℕ, ◌==◌, Bool, true, false, not, ◌||◌, nat_eq, if◌then◌else◌, List, [], ◌∷◌, ◌++◌, map, length, Option, Some, None, is_some, arith}
+use Rattle.std.proofs.Common.{◌≡◌, ◌⊎◌, inl, inr, refl, sym, ap, subst, ◌∙◌, ℕ, ◌==◌, Bool, true, false, not, nat_eq, if◌then◌else◌, List, [], ◌∷◌, ◌++◌, map, length, Option, Some, None, is_some, arith}
+use Rattle.std.proofs.lemmas.Option.{same_Some}
 use Rattle.std.specs.Prelude.{unwrap_or}
 use Rattle.std.specs.List.{AllByRecursion as Each, list_any, flat_map}
 use Rattle.std.specs.Option.{option_map_or}
@@ -61,11 +62,8 @@ value-each : (P : Text → Type 0) (es : List Typed) (n s : Text) → Each (λ e
 value-each P [] n s h v = cc
 value-each P (e ∷ es) n s h v = by (bytes_eq n e.0) refl (value-each P es n s h.1)
   where
-    is : (x y : Text) → Some x ≡ Some y → x ≡ y
-    is x y k = cc
-
     by : (b : Bool) → bytes_eq n e.0 ≡ b → (value_of es n ≡ Some s → P s) → P s
-    by true k onward = subst P (is e.1 s (sym (ap (λ b. if b then Some e.1 else value_of es n) k) ∙ v)) h.0
+    by true k onward = subst P (same_Some e.1 s (sym (ap (λ b. if b then Some e.1 else value_of es n) k) ∙ v)) h.0
     by false k onward = onward (sym (ap (λ b. if b then Some e.1 else value_of es n) k) ∙ v)
 
 firsts-each : (P : Typed → Type 0) (es more : List Typed) → Each P es → Each P more → Each P (with_firsts es more)

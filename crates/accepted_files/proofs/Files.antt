@@ -126,7 +126,7 @@ module _ (d : Domain) (p : Problem) (clean : IsClean d p) (named : TypesAreNamed
   constraint_forms : FormsOfConstraints p.constraints ≡ []
   constraint_forms = nothing_right (goals.goal_offences (functions_of d) p.goal) (FormsOfConstraints p.constraints) both_forms
 
-  cost_forms : Each (λ c. time_costs.time_cost_offences (functions_of d) c ≡ []) p.time_costs
+  pub cost_forms : Each (λ c. time_costs.time_cost_offences (functions_of d) c ≡ []) p.time_costs
   cost_forms = nothing_each (time_costs.time_cost_offences (functions_of d)) p.time_costs (nothing_right (goals.goal_offences (functions_of d) p.goal ++ FormsOfConstraints p.constraints) FormsOfCosts asked_forms)
 
   -- the goal and the constraints, then the time costs and the metric

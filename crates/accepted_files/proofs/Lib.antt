@@ -5,3 +5,13 @@ pub mod Atoms
 pub mod Trees
 pub mod Actions
 pub mod Files
+pub mod NameWords
+pub mod Spelling
+pub mod ActionNames
+pub mod TypedNames
+pub mod FileNames
+pub mod Cleaning
+pub mod PartSizes
+pub mod Costs
+pub mod Distinct
+pub mod Promises

@@ -1,6 +1,7 @@
 -- Under a binding that agrees with the types in scope each variable stands for an object that fits its type; a list of
 -- variables, no two of them the same, keeps it so under each choice of objects that fit.
 use Rattle.std.proofs.Common.{◌≡◌, refl, sym, ap, ap₂, subst, append-nil, append_assoc, is_some, ◌∙◌, ℕ, ◌==◌, Bool, true, false, not, ◌&&◌, ◌||◌, if◌then◌else◌, List, [], ◌∷◌, ◌++◌, map, Some}
+use Rattle.std.proofs.lemmas.Option.{same_Some}
 use Rattle.std.specs.List.{list_any}
 use Rattle.std.specs.Str.{bytes_eq}
 use Rattle.std.proofs.lemmas.List.{map-append}
@@ -76,15 +77,12 @@ module _ (fitting : Text → List ℕ) where
           → Fit s (object_at (if bytes_eq e.0 name then o else found) (paired (names_in es) os) name)
       by true h onward =
           let is : Some e.1 ≡ Some s = sym (ap (λ b. if b then Some e.1 else value_of (es ++ scope) name) h) ∙ v in
-          let same : e.1 ≡ s = some_is e.1 s is in
+          let same : e.1 ≡ s = same_Some e.1 s is in
           let here : bytes_eq e.0 name ≡ true = ap (λ n. bytes_eq e.0 n) (same_text name e.0 h) ∙ text_itself e.0 in
           let gone : among (names_in es) name ≡ false = ap (among (names_in es)) (same_text name e.0 h) ∙ fresh in
           let stays : object_at (if bytes_eq e.0 name then o else found) (paired (names_in es) os) name ≡ o =
           ap (λ b. object_at (if b then o else found) (paired (names_in es) os) name) here ∙ kept es os o name gone in
           subst (λ x. Fit s x) (sym stays) (subst (λ t. Fit t o) same first)
-        where
-          some_is : (x y : Text) → Some x ≡ Some y → x ≡ y
-          some_is x y k = cc
       by false h onward =
           let later : value_of (es ++ scope) name ≡ Some s = sym (ap (λ b. if b then Some e.1 else value_of (es ++ scope) name) h) ∙ v in
           let there : bytes_eq e.0 name ≡ false = other_text name e.0 h in

@@ -39,7 +39,7 @@ both_empty (x ∷ xs) ys e = let t : x ∷ (xs ++ ys) ≡ [] = e in absurd cc
 
 -- ---- a domain in which no phase finds anything
 
-nothing_found : (o : Option Offence) → refusal_for o ≡ None → o ≡ None
+pub nothing_found : (o : Option Offence) → refusal_for o ≡ None → o ≡ None
 nothing_found None e = refl
 nothing_found (Some o) e = let t : ◌≡◌ {A = Option PddlFault} (Some (At o.kind o.place)) None = e in absurd cc
 
@@ -136,7 +136,7 @@ signature_names [] = refl
 signature_names (declared.Named at n parameters ∷ ds) = ap (λ l. n.bytes ∷ l) (signature_names ds)
 signature_names (declared.LeftOut at ∷ ds) = signature_names ds
 
-names_of_actions : (actions : List ActionDef) → texts_of (flat_map (λ a. a.name ∷ []) actions) ≡ map (λ a. a.name.bytes) actions
+pub names_of_actions : (actions : List ActionDef) → texts_of (flat_map (λ a. a.name ∷ []) actions) ≡ map (λ a. a.name.bytes) actions
 names_of_actions [] = refl
 names_of_actions (a ∷ actions) = ap (λ l. a.name.bytes ∷ l) (names_of_actions actions)
 

@@ -31,7 +31,7 @@ use Rattle.pddl_domain.specs.Domains.{declarations, declarations_of, domain_of, 
 use Rattle.pddl_domain.specs.Readings.{IsDomain}
 
 -- how many words and lists there are, up to the end of the list
-size : Content → ℕ
+unfoldable pub size : Content → ℕ
 size (End close) = 0
 size (Word w more) = suc (size more)
 size (Inner at inner more) = suc (size inner + size more)
@@ -63,7 +63,7 @@ unfolding size total
 top-size [] = omega arith
 top-size (x ∷ xs) = omega arith
 
-text-size : (text : List ℕ) (tokens : List Token) → AreTokens text tokens → size (content_at (lexed text tokens) 0) ≤ length text
+pub text-size : (text : List ℕ) (tokens : List Token) → AreTokens text tokens → size (content_at (lexed text tokens) 0) ≤ length text
 unfolding content_at
 text-size text tokens t =
     let spans = length-spans text 0 (length text) tokens t.spans in
@@ -71,7 +71,7 @@ text-size text tokens t =
     let all = levels-size text tokens in
     omega (arith, spans, here, all)
 
-behind-size : (x : Content) → size (behind x) ≤ size x
+pub behind-size : (x : Content) → size (behind x) ≤ size x
 unfolding size
 behind-size (End close) = omega arith
 behind-size (Word w more) = omega arith
@@ -79,11 +79,11 @@ behind-size (Inner at inner more) = omega arith
 
 -- ---- sections
 
-size_of : Option Content → ℕ
+unfoldable pub size_of : Option Content → ℕ
 size_of None = 0
 size_of (Some x) = size x
 
-section-size : (key : List ℕ) (x : Content) → size_of (section key x) ≤ size x
+pub section-size : (key : List ℕ) (x : Content) → size_of (section key x) ≤ size x
 unfolding size size_of section
 section-size key (End close) = omega arith
 section-size key (Word w more) = let rest = section-size key more in omega (arith, rest)
@@ -103,7 +103,7 @@ names-append gs hs = ap length (flat_map-append (λ g. g.names) gs hs) ∙ lengt
 mutual
   unfolding size groups groups_of
 
-  groups-size : (of : Listed) (before : List Name) (x : Content) → length (names_of (groups of before x)) ≤ length before + size x
+  pub groups-size : (of : Listed) (before : List Name) (x : Content) → length (names_of (groups of before x)) ≤ length before + size x
   groups-size of before (End close) = let all = group-size before type.Object in omega (arith, all)
   groups-size of before (Word w more) =
       let listed = groups-size of (before ++ name_of w ∷ []) more in
@@ -131,7 +131,7 @@ mutual
       let both = names-append (group_of before (type.LeftOut at)) (groups of [] more) in
       omega (arith, here, rest, both)
 
-section_names-size : (x : Option Content) → length (names_of (sections.groups_of x)) ≤ size_of x
+pub section_names-size : (x : Option Content) → length (names_of (sections.groups_of x)) ≤ size_of x
 unfolding size_of
 section_names-size None = omega arith
 section_names-size (Some x) = let all = groups-size Names [] x in omega (arith, all)

@@ -29,7 +29,7 @@ use Rattle.pddl_forms.specs.Limits.{objects_limit, parameters_limit, names_in, p
 
 -- ---- where a list is empty, so are its parts
 
-is_right : (right : Bool) (k : Kind) (at : ℕ) → unless right k at ≡ [] → right ≡ true
+pub is_right : (right : Bool) (k : Kind) (at : ℕ) → unless right k at ≡ [] → right ≡ true
 is_right true k at e = refl
 is_right false k at e = let t : offence k at ∷ [] ≡ [] = e in cc
 
