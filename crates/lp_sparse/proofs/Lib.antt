@@ -10,6 +10,7 @@ pub mod RowReads
 pub mod Pivoting
 pub mod Walking
 pub mod FirstRows
+pub mod NarrowParts
 pub mod ResultSteps
 pub mod WiderParts
 pub mod Mixing
