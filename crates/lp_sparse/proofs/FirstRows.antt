@@ -3,7 +3,7 @@ use Rattle.std.proofs.Common.{◌≡◌, ℕ, zero, suc, pos, Bool, true, ◌+�
 use Rattle.std.specs.Prelude.{Vec, if◌then◌else◌}
 use Rattle.std.proofs.lemmas.Int.{ints}
 use Rattle.std.specs.List.{All, range_with_len}
-use Rattle.std.proofs.lemmas.List.{length-map, length-append, map-append, get_or-map, get_or_append_left, get_or-append_right, take_more, take_all, get_or_default, append-nil}
+use Rattle.std.proofs.lemmas.List.{length-map, length-append, map-append, get_or-map, get_or_append_left, get_or-append_right, take_more, take_all, append-nil}
 use Rattle.std.proofs.lemmas.List.FromFn.{length-range_with_len}
 use Rattle.std.proofs.lemmas.List.Elements.{All-append}
 use Rattle.rational.specs.Rational.{ℚ, zeroℚ, neg_ℚ}
@@ -19,7 +19,7 @@ use Rattle.exact_lin.proofs.Zeros.{is_zero-zero}
 use Rattle.exact_lin.proofs.Results.{fits-whole}
 use Rattle.exact_lin.proofs.MergeTerms.{coefficient-below, coefficient-later, coefficient-here}
 use Rattle.cert_core.specs.Programs.{Program, IsEven, entry_of}
-use Rattle.lp_tableau.specs.Dictionaries.{Dictionary, initial, slack_row}
+use Rattle.lp_tableau.specs.Dictionaries.{initial, slack_row}
 use Rattle.lp_tableau.specs.RowLists.{RowFits}
 use Rattle.lp_tableau.proofs.Writing.{last_or_before}
 use Rattle.lp_tableau.proofs.Growing.{grown}

@@ -1,5 +1,5 @@
 -- The same rows and dictionaries in parts of 64 bits.
-use Rattle.std.proofs.Common.{◌≡◌, ℕ, zero, suc, pos, ◌+◌, ◌<◌, ◌≤◌, ◌⊎◌, ⊎_elim, Bool, true, false, nat_eq, List, [], ◌∷◌, ◌++◌, length, map, take, refl, sym, ap, subst, ◌∙◌, get_or, arith}
+use Rattle.std.proofs.Common.{◌≡◌, ℕ, zero, suc, pos, ◌+◌, ◌<◌, ◌≤◌, ◌⊎◌, ⊎_elim, Bool, true, false, nat_eq, List, [], ◌∷◌, ◌++◌, length, map, refl, sym, ap, subst, ◌∙◌, get_or, arith}
 use Rattle.std.specs.Prelude.{Vec, Option, Some, None, MatchOption, if◌then◌else◌}
 use Rattle.std.proofs.lemmas.Int.{ints}
 use Rattle.std.proofs.lemmas.List.{length-map, get_or-map, get_or_default}
@@ -14,7 +14,7 @@ use Rattle.exact_lin.proofs.Results.{fits-neg, fits-whole}
 use Rattle.exact_lin.proofs.MergeTerms.{coefficient-later, coefficient-here}
 use Rattle.cert_core.specs.Programs.{Program, IsEven, entry_of, bound_of}
 use Rattle.lp_tableau.specs.Dictionaries.{initial, slack_row, row_in}
-use Rattle.lp_tableau.specs.RowLists.{RowFits, RowsFit}
+use Rattle.lp_tableau.specs.RowLists.{RowFits}
 use Rattle.lp_sparse.specs.declared.tableau.Tableau.{Tableau}
 use Rattle.lp_sparse.specs.SparseRows.{filled, terms_of, terms_of_rows, IsRow, IsSparse}
 use Rattle.lp_sparse.specs.SparseChanges.{terms_in}

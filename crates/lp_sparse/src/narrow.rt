@@ -6,6 +6,7 @@ ghost use Rattle.lp_sparse.specs.NarrowNumbers.{TermsFit, RowTermsFit, HasNarrow
 ghost use Rattle.lp_sparse.specs.SparseRows.{terms_of, terms_of_rows};
 ghost use Rattle.lp_sparse.specs.SparseTableaus.{AreRows, dictionary_of};
 
+use crate::merge::row_with_room;
 use crate::tableau::Tableau;
 use exact_lin::{Fraction, Narrow, NoMemory};
 use std::alloc::Global;
@@ -18,7 +19,7 @@ fn narrow_row(
     ensures { IfOk result (λ found. MatchOption found (¬ TermsFit narrow_limit (terms_of (λ q. q) row.now))
         (λ v. TermsFit narrow_limit (terms_of (λ q. q) row.now) × v.items ≡ row.now)) }
 {
-    let mut out = Vec::with_capacity(alloc, row.len())?;
+    let mut out = row_with_room(alloc, row.len())?;
     for term in row {
         match term.1.narrow() {
             Some(number) => out.push((term.0, number))?,

@@ -10,7 +10,7 @@ ghost use Rattle.lp_sparse.specs.SparseRows.{terms_of, terms_of_rows, filled, Is
 ghost use Rattle.lp_sparse.specs.SparseTableaus.{AreRows, dictionary_of};
 
 use crate::marks::marks_for;
-use crate::merge::push_term;
+use crate::merge::{push_term, row_with_room};
 use crate::tableau::Tableau;
 use cert_core::Rows;
 use exact_lin::{Id, NoMemory, Scalar};
@@ -62,7 +62,7 @@ fn told_slack<R: Id, V: Id, S: Scalar, P: Rows<R, V, S>>(
         (slack_row (row_at (P.program program.now).rows (R.number_of r)))
         (terms_of S.value v.items)) }
 {
-    let mut row = Vec::with_capacity(alloc, terms.len())?;
+    let mut row = row_with_room(alloc, terms.len())?;
     let mut left = terms;
     while let Some((term, later)) = left.split_first() {
         push_term(&mut row, term.0.number() as usize, term.1.neg())?;

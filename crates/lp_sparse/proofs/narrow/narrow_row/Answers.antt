@@ -1,4 +1,4 @@
-use Rattle.std.proofs.Common.{◌∙◌, arith, subst, take}
+use Rattle.std.proofs.Common.{◌∙◌, arith}
 use Rattle.std.proofs.lemmas.List.{take_all}
 use Rattle.exact_lin.specs.Reckoning.{narrow_limit}
 use Rattle.lp_sparse.proofs.WiderParts.{widened-next}

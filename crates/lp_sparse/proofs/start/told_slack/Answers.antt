@@ -1,4 +1,4 @@
-use Rattle.std.proofs.Common.{◌≡◌, ◌<◌, ◌≤◌, ◌+◌, ◌∙◌, ap, sym, map, length, arith, subst, refl, ℕ, List}
+use Rattle.std.proofs.Common.{◌∙◌, ap, sym, map, length, arith, subst, refl}
 use Rattle.std.proofs.lemmas.List.{nil_from_length}
 use Rattle.rational.specs.Rational.{neg_ℚ}
 use Rattle.rational.specs.Rows.{row_at}
@@ -13,7 +13,7 @@ loop-term-init g c =
     let p = g.P.Rows.program c.args.program.now in
     let r = g.R.Id.number_of c.args.r in
     let even = g.met.P.Rows.even c.args.program.now in
-    subst (λ xs. Negates g.S.Scalar.limit (length p.costs) (slack_row (row_at p.rows r)) (terms_of g.S.Scalar.value xs) (shown g.V.Id.number_of g.S.Scalar.value c.args.terms.now)) (sym c.in_ok-row.ensures.items)
+    subst (λ xs. Negates g.S.Scalar.limit (length p.costs) (slack_row (row_at p.rows r)) (terms_of g.S.Scalar.value xs) (shown g.V.Id.number_of g.S.Scalar.value c.args.terms.now)) (sym c.in_ok-row.ensures)
     (Negates-begin g.S.Scalar.limit (length p.costs) (slack_row (row_at p.rows r)) (shown g.V.Id.number_of g.S.Scalar.value c.args.terms.now) c.requires.told.ascends c.requires.told.within
     (λ k h. sym (slack-entry p even r c.requires.row k h) ∙ ap neg_ℚ (sym (c.requires.told.entries k h))))
 
