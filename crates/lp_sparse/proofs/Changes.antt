@@ -1,8 +1,7 @@
 -- The rows that a pivot changes, found one after the other, and put at their places.
-use Rattle.std.proofs.Common.{◌≡◌, ℕ, zero, suc, ◌+◌, ◌<◌, ◌≤◌, ◌⊎◌, inl, inr, ⊎_elim, List, [], ◌∷◌, ◌++◌, length, refl, sym, ap, subst, ◌∙◌, get_or, set, take, Option, None, Some, arith, append_assoc}
+use Rattle.std.proofs.Common.{◌≡◌, ℕ, zero, suc, ◌+◌, ◌-◌, ◌<◌, ◌≤◌, inl, inr, ⊎_elim, List, [], ◌∷◌, ◌++◌, length, refl, sym, ap, subst, ◌∙◌, set, take, Option, None, Some, arith, append_assoc}
 use Rattle.std.proofs.lemmas.List.{length-append, length-set, length-take, length-map, map-set, map-append, take_more}
-use Rattle.std.specs.List.{AllByRecursion}
-use Rattle.basics.proofs.Lists.{each_append, each_left, each_right}
+use Rattle.basics.proofs.Lists.{each_left, each_right}
 use Rattle.exact_lin.specs.Forms.{Terms}
 use Rattle.lp_sparse.specs.SparseChanges.{noted, row_or, changes_of, with_changes, AreWithin, AreChanges, terms_in}
 use Rattle.std.specs.Prelude.{Vec}
@@ -102,6 +101,23 @@ noted-next value Changes rows cs k None h c a = subst (λ (rs : List Terms). Are
     (AreChanges-keep Changes 0 (take k rows) (terms_in rows k) cs (subst (λ (m : ℕ). Changes m (terms_in rows k) (terms_in rows k)) (place_is k rows h) c) a)
 noted-next value Changes rows cs k (Some out) h c a = subst (λ (rs : List Terms). AreChanges Changes 0 rs (cs ++ (k, terms_of value out.items) ∷ [])) (sym (take_more rows k [] h))
     (AreChanges-take Changes 0 k (take k rows) (terms_in rows k) (terms_of value out.items) cs (place_is k rows h) c a)
+
+-- rows that stay as they are are passed over
+passed-over : (Changes : ℕ → Terms → Terms → Type 0) (rows : List Terms) (cs : List Change) (k d : ℕ) → k + d ≤ length rows
+    → ((m : ℕ) → k ≤ m → m < k + d → Changes m (terms_in rows m) (terms_in rows m)) → AreChanges Changes 0 (take k rows) cs → AreChanges Changes 0 (take (k + d) rows) cs
+passed-over Changes rows cs k zero l stay a = subst (λ (n : ℕ). AreChanges Changes 0 (take n rows) cs) (let e : k ≡ k + 0 = omega arith in e) a
+passed-over Changes rows cs k (suc d) l stay a =
+    let last : k + d < length rows = omega (arith, l) in
+    let before = passed-over Changes rows cs k d (omega (arith, l)) (λ m f t. stay m f (omega (arith, t))) a in
+    subst (λ (n : ℕ). AreChanges Changes 0 (take n rows) cs) (let e : k + d + 1 ≡ k + suc d = omega arith in e)
+    (subst (λ (rs : List Terms). AreChanges Changes 0 rs cs) (sym (take_more rows (k + d) [] last))
+    (AreChanges-keep Changes 0 (take (k + d) rows) (terms_in rows (k + d)) cs (subst (λ (m : ℕ). Changes m (terms_in rows (k + d)) (terms_in rows (k + d))) (place_is (k + d) rows last) (stay (k + d) (omega arith) (omega arith))) before))
+
+pub passed-to : (Changes : ℕ → Terms → Terms → Type 0) (rows : List Terms) (cs : List Change) (k m : ℕ) → k ≤ m → m ≤ length rows
+    → ((e : ℕ) → k ≤ e → e < m → Changes e (terms_in rows e) (terms_in rows e)) → AreChanges Changes 0 (take k rows) cs → AreChanges Changes 0 (take m rows) cs
+passed-to Changes rows cs k m h l stay a =
+    let end : k + (m - k) ≡ m = omega (arith, h) in
+    subst (λ (n : ℕ). AreChanges Changes 0 (take n rows) cs) end (passed-over Changes rows cs k (m - k) (omega (arith, l, end)) (λ e f t. stay e f (omega (arith, t, end))) a)
 
 pub length-with_changes : (cs : List Change) (rows : List Terms) → length (with_changes cs rows) ≡ length rows
 length-with_changes [] rows = refl

@@ -1,16 +1,15 @@
 -- The numbers of rows without their zeros: terms put together, sums of terms, and the filled row.
-use Rattle.std.proofs.Common.{◌≡◌, ◌≢◌, ℕ, ◌+◌, ◌-◌, ◌<◌, ◌≤◌, ◌⊎◌, ⊎_elim, Bool, true, false, nat_eq, List, [], ◌∷◌, ◌++◌, length, map, refl, sym, ap, ap₂, subst, ◌∙◌, get_or, arith}
+use Rattle.std.proofs.Common.{◌≡◌, ℕ, ◌+◌, ◌-◌, ◌<◌, ◌≤◌, ◌⊎◌, ⊎_elim, Bool, true, false, nat_eq, List, [], ◌∷◌, ◌++◌, length, refl, sym, ap, ap₂, subst, ◌∙◌, get_or, arith}
 use Rattle.std.specs.Prelude.{if◌then◌else◌}
 use Rattle.std.specs.List.{range_with_len}
-use Rattle.std.proofs.lemmas.List.{length-map, map-append, get_or-map, same_lists, get_or_default}
+use Rattle.std.proofs.lemmas.List.{length-map, get_or-map, same_lists, get_or_default}
 use Rattle.std.proofs.lemmas.List.FromFn.{length-range_with_len, get_or-map-range_with_len}
-use Rattle.std.proofs.lemmas.Bool.Decides.{nat_tests}
 use Rattle.rational.specs.Rational.{ℚ, zeroℚ, oneℚ, ◌+ℚ◌, ◌*ℚ◌}
 use Rattle.rational.specs.Lists.{at}
 use Rattle.rational.proofs.Ring.{law, ◌⊕◌, ◌⊗◌, ◌≐◌, num}
 use Rattle.rational.proofs.Field.{ℚ_ring}
 use Rattle.exact_lin.specs.Ids.{nat-decide}
-use Rattle.exact_lin.specs.Reckoning.{Fits, CanAdd, CanMultiply}
+use Rattle.exact_lin.specs.Reckoning.{Fits, CanAdd}
 use Rattle.exact_lin.specs.Reckonings.{AreDefined, product_sum}
 use Rattle.exact_lin.specs.Forms.{Terms, AscendFrom, Covers, coefficient, terms_at, with_term, is_zero, increased, increased_by, CanAddTerms}
 use Rattle.exact_lin.proofs.FormLaws.{AscendFrom-lower, AscendFrom-with_term, AscendFrom-increased, AscendFrom-increased_by, terms_at-increased_by}
@@ -18,7 +17,6 @@ use Rattle.exact_lin.proofs.Zeros.{zero-is_zero}
 use Rattle.std.proofs.lemmas.List.{get_or_append_left, get_or-append_right, length-append}
 use Rattle.exact_lin.proofs.MergeTerms.{coefficient-below, coefficient-later, coefficient-here}
 use Rattle.exact_lin.proofs.Nothing.{adds_nothing_right}
-use Rattle.basics.proofs.Lists.{range-more}
 use Rattle.lp_sparse.specs.SparseRows.{filled, terms_of, IsSparse}
 
 -- ---- terms behind other terms

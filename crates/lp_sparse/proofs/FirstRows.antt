@@ -1,18 +1,25 @@
 -- The first dictionary of a program, made number by number without its zeros.
-use Rattle.std.proofs.Common.{◌≡◌, ℕ, zero, suc, ◌+◌, ◌-◌, ◌<◌, ◌≤◌, List, [], ◌∷◌, ◌++◌, length, map, take, refl, sym, ap, subst, ◌∙◌, ⊎_elim, get_or, arith}
-use Rattle.std.specs.Prelude.{Vec}
+use Rattle.std.proofs.Common.{◌≡◌, ℕ, zero, suc, pos, Bool, true, ◌+◌, ◌-◌, ◌<◌, ◌≤◌, List, [], ◌∷◌, ◌++◌, length, map, take, refl, sym, ap, subst, ◌∙◌, ⊎_elim, get_or, arith}
+use Rattle.std.specs.Prelude.{Vec, if◌then◌else◌}
+use Rattle.std.proofs.lemmas.Int.{ints}
 use Rattle.std.specs.List.{All, range_with_len}
-use Rattle.std.proofs.lemmas.List.{length-map, length-append, map-append, get_or-map, get_or_append_left, get_or-append_right, take_more, take_all, get_or_default}
+use Rattle.std.proofs.lemmas.List.{length-map, length-append, map-append, get_or-map, get_or_append_left, get_or-append_right, take_more, take_all, append-nil}
 use Rattle.std.proofs.lemmas.List.FromFn.{length-range_with_len}
 use Rattle.std.proofs.lemmas.List.Elements.{All-append}
 use Rattle.rational.specs.Rational.{ℚ, zeroℚ, neg_ℚ}
 use Rattle.rational.specs.Lists.{at}
 use Rattle.rational.specs.Rows.{Row, row_at, no_row}
 use Rattle.rational.proofs.Rows.{row_at-length}
+use Rattle.rational.proofs.Ring.{law, minus, ◌≐◌, num}
+use Rattle.rational.proofs.Field.{ℚ_ring}
+use Rattle.rational.proofs.Fractions.{den_pos}
 use Rattle.exact_lin.specs.Reckoning.{Fits}
-use Rattle.exact_lin.specs.Forms.{Terms, with_term}
+use Rattle.exact_lin.specs.Forms.{Terms, AscendFrom, Covers, coefficient, is_zero, with_term}
+use Rattle.exact_lin.proofs.Zeros.{is_zero-zero}
+use Rattle.exact_lin.proofs.Results.{fits-whole}
+use Rattle.exact_lin.proofs.MergeTerms.{coefficient-below, coefficient-later, coefficient-here}
 use Rattle.cert_core.specs.Programs.{Program, IsEven, entry_of}
-use Rattle.lp_tableau.specs.Dictionaries.{Dictionary, initial, slack_row}
+use Rattle.lp_tableau.specs.Dictionaries.{initial, slack_row}
 use Rattle.lp_tableau.specs.RowLists.{RowFits}
 use Rattle.lp_tableau.proofs.Writing.{last_or_before}
 use Rattle.lp_tableau.proofs.Growing.{grown}
@@ -31,7 +38,7 @@ fits-more limit k u c e f h m l = ⊎_elim
     (last_or_before m k (omega (arith, l, e, length-append u (c ∷ []))))
 
 module _ (limit : ℕ) (wanted : List ℚ) where
-  RowOf-begin : IsRowOf limit 0 (take 0 wanted) []
+  pub RowOf-begin : IsRowOf limit 0 (take 0 wanted) []
   RowOf-begin = record { is = record { sparse = record { ascends = tt; covered = tt }; fits = λ k h. absurd (omega (arith, h)) }; gives = refl }
 
   -- one number more of what is wanted
@@ -110,3 +117,55 @@ module _ {S : Type 0} (value : S → ℚ) (limit : ℕ) (p : Program) (t : Table
   first-dictionary = same_dictionary _ _ _ _ _ _ _ _ basic_is nonbasic_is
       (ap (λ (m : ℕ). map (filled m) (terms_of_rows value t.rows.items)) width ∙ rows_are)
       (ap (λ (m : ℕ). filled m (terms_of value t.cost.items)) width ∙ cost_is.gives)
+
+-- ---- a row that is told by its entries
+pub zero-fits : (limit : ℕ) (c : ℚ) → Fits limit c → Fits limit zeroℚ
+zero-fits limit c f = fits-whole limit (pos 0) (omega (arith, den_pos c, f.denominator)) (omega (arith, ints))
+
+-- a number that is 0 adds no term
+RowOf-zero : (limit : ℕ) (wanted : List ℚ) (k : ℕ) (terms : Terms) → Fits limit zeroℚ → k < length wanted → at wanted k ≡ zeroℚ → IsRowOf limit k (take k wanted) terms → IsRowOf limit (k + 1) (take (k + 1) wanted) terms
+RowOf-zero limit wanted k terms f h e r = RowOf-next limit wanted k zeroℚ terms terms h (sym e) f (sym (ap (λ (ts : Terms). terms ++ ts) (without zeroℚ (is_zero-zero zeroℚ refl)) ∙ append-nil terms)) r
+  where
+    without : (c : ℚ) → is_zero c ≡ true → with_term k c [] ≡ []
+    without c z = ap (λ (b : Bool). if b then [] else ((k, c) ∷ [])) z
+
+RowOf-zeros : (limit : ℕ) (wanted : List ℚ) (k d : ℕ) (terms : Terms) → Fits limit zeroℚ → k + d ≤ length wanted → ((m : ℕ) → k ≤ m → m < k + d → at wanted m ≡ zeroℚ) → IsRowOf limit k (take k wanted) terms → IsRowOf limit (k + d) (take (k + d) wanted) terms
+RowOf-zeros limit wanted k zero terms f h e r = subst (λ (m : ℕ). IsRowOf limit m (take m wanted) terms) (let same : k ≡ k + 0 = omega arith in same) r
+RowOf-zeros limit wanted k (suc d) terms f h e r = subst (λ (m : ℕ). IsRowOf limit m (take m wanted) terms) (let same : (k + d) + 1 ≡ k + suc d = omega arith in same)
+    (RowOf-zero limit wanted (k + d) terms f (omega (arith, h)) (e (k + d) (omega arith) (omega arith)) (RowOf-zeros limit wanted k d terms f (omega (arith, h)) (λ m a b. e m a (omega (arith, b))) r))
+
+-- up to a later place
+RowOf-until : (limit : ℕ) (wanted : List ℚ) (k n : ℕ) (terms : Terms) → Fits limit zeroℚ → k ≤ n → n ≤ length wanted → ((m : ℕ) → k ≤ m → m < n → at wanted m ≡ zeroℚ) → IsRowOf limit k (take k wanted) terms → IsRowOf limit n (take n wanted) terms
+RowOf-until limit wanted k n terms f a h e r = let same : k + (n - k) ≡ n = omega (arith, a) in
+    subst (λ (m : ℕ). IsRowOf limit m (take m wanted) terms) same (RowOf-zeros limit wanted k (n - k) terms f (omega (arith, h, same)) (λ m b c. e m b (omega (arith, c, same))) r)
+
+neg-zero : neg_ℚ zeroℚ ≡ zeroℚ
+neg-zero = law ℚ_ring (zeroℚ ∷ []) (λ a. minus (num 0) ≐ num 0) refl
+
+module _ (limit n : ℕ) (wanted : List ℚ) where
+  -- the first numbers of what is wanted are there; those from `low` on are minus the terms that are left
+  pub record Negates (row left : Terms) : Type 0 where
+    pub low : ℕ
+    pub ascends : AscendFrom low left
+    pub within : Covers n left
+    pub low_within : low ≤ n
+    pub rest : (k : ℕ) → low ≤ k → k < n → at wanted k ≡ neg_ℚ (coefficient left k)
+    pub so_far : IsRowOf limit low (take low wanted) row
+
+  pub Negates-begin : (terms : Terms) → AscendFrom 0 terms → Covers n terms → ((k : ℕ) → k < n → at wanted k ≡ neg_ℚ (coefficient terms k)) → Negates [] terms
+  Negates-begin terms a c e = record { low = 0; ascends = a; within = c; low_within = omega arith; rest = λ k h l. e k l; so_far = RowOf-begin limit wanted }
+
+  pub Negates-next : (t : ℕ × ℚ) (rest row now : Terms) (column : ℕ) (c : ℚ) → n ≤ length wanted → column ≡ t.0 → c ≡ neg_ℚ t.1 → Fits limit c → now ≡ row ++ with_term column c [] → Negates row (t ∷ rest) → Negates now rest
+  Negates-next t rest row now column c long w e f m s = record {
+    low = t.0 + 1;
+    ascends = s.ascends.2;
+    within = s.within.1;
+    low_within = omega (arith, s.within.0);
+    rest = λ k h l. s.rest k (omega (arith, h, s.ascends.0)) l ∙ ap neg_ℚ (coefficient-later k t rest (omega (arith, h)));
+    so_far = RowOf-next limit wanted t.0 c row now (omega (arith, s.within.0, long)) (e ∙ ap neg_ℚ (sym (coefficient-here t.0 t rest refl)) ∙ sym (s.rest t.0 s.ascends.0 s.within.0)) f (subst (λ (k : ℕ). now ≡ row ++ with_term k c []) w m)
+        (RowOf-until limit wanted s.low t.0 row (zero-fits limit c f) s.ascends.0 (omega (arith, s.within.0, long))
+        (λ k a b. s.rest k a (omega (arith, b, s.within.0)) ∙ ap neg_ℚ (coefficient-below k t.0 (t ∷ rest) (omega arith, s.ascends.1, s.ascends.2) b) ∙ neg-zero) s.so_far);
+  }
+
+  pub Negates-all : (row : Terms) → n ≤ length wanted → Fits limit zeroℚ → Negates row [] → IsRowOf limit n (take n wanted) row
+  Negates-all row long f s = RowOf-until limit wanted s.low n row f s.low_within long (λ k a b. s.rest k a b ∙ neg-zero) s.so_far

@@ -1,3 +1,4 @@
+pub mod Units
 pub mod Coefficients
 pub mod Merging
 pub mod Replacing
@@ -7,9 +8,11 @@ pub mod Marking
 pub mod Pointing
 pub mod RowParts
 pub mod RowReads
+pub mod Passing
 pub mod Pivoting
 pub mod Walking
 pub mod FirstRows
+pub mod NarrowParts
 pub mod ResultSteps
 pub mod WiderParts
 pub mod Mixing

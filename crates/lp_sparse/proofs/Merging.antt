@@ -1,5 +1,5 @@
 -- A merge of terms on its way, behind what the sum already held.
-use Rattle.std.proofs.Common.{◌≡◌, ℕ, [], ◌∷◌, ◌++◌, sym, subst, ap, ◌∙◌, append_assoc}
+use Rattle.std.proofs.Common.{◌≡◌, ℕ, [], ◌∷◌, ◌++◌, sym, subst, ap, ◌∙◌}
 use Rattle.rational.specs.Rational.{ℚ}
 use Rattle.exact_lin.specs.Forms.{Terms, AscendFrom, increased_by, CanAddTerms}
 use Rattle.exact_lin.specs.Merges.{merged, CanMerge, MergesTerm}

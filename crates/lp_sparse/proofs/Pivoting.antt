@@ -1,8 +1,8 @@
 -- The rows after a pivot, as a dictionary.
-use Rattle.std.proofs.Common.{◌≡◌, ℕ, ◌+◌, ◌<◌, ◌⊎◌, ⊎_elim, List, [], ◌∷◌, length, map, refl, sym, ap, subst, ◌∙◌, get_or, set, arith}
+use Rattle.std.proofs.Common.{◌≡◌, ℕ, ◌+◌, ◌<◌, ⊎_elim, List, [], length, map, sym, ap, subst, ◌∙◌, get_or, set, arith}
 use Rattle.std.specs.List.{All}
 use Rattle.std.proofs.lemmas.List.{length-map, length-set, get_or-map, get_or-set_same, get_or-set_other, get_or_default, same_lists}
-use Rattle.rational.specs.Rational.{ℚ, zeroℚ}
+use Rattle.rational.specs.Rational.{ℚ}
 use Rattle.exact_lin.specs.Forms.{Terms}
 use Rattle.lp_tableau.specs.Dictionaries.{Dictionary, row_of, row_in, basic_of, nonbasic_of}
 use Rattle.lp_tableau.specs.Pivots.{solved, replaced, replaced_rows, pivoted, CanSolve, CanReplace, CanReplaceOthers, CanReplaceAll, CanPivot}
@@ -10,7 +10,7 @@ use Rattle.lp_tableau.proofs.Solving.{same_or_not}
 use Rattle.lp_sparse.specs.declared.tableau.Tableau.{Tableau}
 use Rattle.lp_sparse.specs.declared.pivot.Reckoned.{Reckoned}
 use Rattle.lp_sparse.specs.SparseRows.{filled, terms_of, terms_of_rows, IsRow, IsSolved, IsReplaced}
-use Rattle.lp_sparse.specs.SparseChanges.{terms_in, AreChanges, Becomes, changes_of, with_changes, row_or}
+use Rattle.lp_sparse.specs.SparseChanges.{terms_in, Becomes, changes_of, with_changes, row_or}
 use Rattle.lp_sparse.specs.SparsePivots.{IsReckoned}
 use Rattle.lp_sparse.specs.ColumnMarks.{marks_of, AreMarked}
 use Rattle.lp_sparse.specs.SparseTableaus.{width_of, dictionary_of, AreRows}

@@ -1,13 +1,13 @@
 -- A row without its zeros after a pivot: the terms before the entering variable's, that one, and the terms behind it.
-use Rattle.std.proofs.Common.{◌≡◌, ℕ, ◌+◌, ◌<◌, ◌⊎◌, inl, inr, ⊎_elim, List, [], ◌∷◌, ◌++◌, length, refl, sym, ap, ap₂, subst, ◌∙◌, get_or, set, arith}
-use Rattle.std.proofs.lemmas.List.{length-set, get_or-set_same, get_or-set_other}
+use Rattle.std.proofs.Common.{◌≡◌, ℕ, ◌+◌, ◌<◌, ◌⊎◌, ⊎_elim, List, [], ◌∷◌, ◌++◌, length, refl, sym, ap, ap₂, subst, ◌∙◌, arith}
+use Rattle.std.proofs.lemmas.List.{get_or-set_same, get_or-set_other}
 use Rattle.rational.specs.Rational.{ℚ, zeroℚ, ◌+ℚ◌, ◌*ℚ◌}
 use Rattle.rational.specs.Lists.{at}
 use Rattle.rational.proofs.Ring.{law, ◌⊕◌, ◌≐◌, num}
 use Rattle.rational.proofs.Field.{ℚ_ring}
-use Rattle.exact_lin.specs.Reckoning.{Fits, CanMultiply}
+use Rattle.exact_lin.specs.Reckoning.{Fits}
 use Rattle.exact_lin.specs.Reckonings.{AreDefined, product_sum}
-use Rattle.exact_lin.specs.Forms.{Terms, AscendFrom, Covers, coefficient, with_term, increased_by, CanAddTerms}
+use Rattle.exact_lin.specs.Forms.{Terms, AscendFrom, Covers, coefficient, with_term, increased_by}
 use Rattle.exact_lin.proofs.FormLaws.{AscendFrom-lower, AscendFrom-with_term, Covers-increased_by}
 use Rattle.exact_lin.proofs.Results.{fits-product, fits-sum, CanAdd-zero}
 use Rattle.lp_tableau.specs.Pivots.{cleared, replaced, CanReplace}

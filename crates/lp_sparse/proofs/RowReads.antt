@@ -1,10 +1,10 @@
 -- What is read of the rows of a tableau.
-use Rattle.std.proofs.Common.{◌≡◌, ℕ, ◌+◌, ◌<◌, false, List, [], length, map, sym, ap, subst, ◌∙◌, get_or, arith}
+use Rattle.std.proofs.Common.{◌≡◌, ℕ, ◌<◌, false, List, [], length, sym, ap, subst, ◌∙◌, get_or, arith}
 use Rattle.std.specs.Prelude.{Vec}
 use Rattle.std.proofs.lemmas.List.{length-map, get_or-map}
 use Rattle.rational.specs.Rational.{ℚ, zeroℚ}
 use Rattle.rational.specs.Lists.{at}
-use Rattle.exact_lin.specs.Forms.{Terms, coefficient}
+use Rattle.exact_lin.specs.Forms.{coefficient}
 use Rattle.lp_tableau.specs.Dictionaries.{row_of}
 use Rattle.lp_sparse.specs.declared.tableau.Tableau.{Tableau}
 use Rattle.lp_sparse.specs.SparseRows.{filled, terms_of, terms_of_rows, IsRow}

@@ -1,7 +1,7 @@
 -- The terms of a leaving row, solved for the entering variable.
-use Rattle.std.proofs.Common.{◌≡◌, ℕ, zero, suc, ◌+◌, ◌<◌, ◌≤◌, ◌⊎◌, ⊎_elim, Bool, true, false, nat_eq, List, [], ◌∷◌, ◌++◌, length, map, take, refl, sym, ap, ap₂, subst, ◌∙◌, get_or, arith}
+use Rattle.std.proofs.Common.{◌≡◌, ℕ, zero, suc, ◌+◌, ◌<◌, ◌≤◌, ⊎_elim, Bool, true, false, nat_eq, List, [], ◌∷◌, ◌++◌, length, take, refl, sym, ap, ap₂, subst, ◌∙◌, get_or, arith}
 use Rattle.std.specs.Prelude.{if◌then◌else◌}
-use Rattle.std.proofs.lemmas.List.{length-set, length-map, get_or-map, get_or-set_same, get_or-set_other}
+use Rattle.std.proofs.lemmas.List.{length-map, get_or-map, get_or-set_same, get_or-set_other}
 use Rattle.rational.specs.Rational.{ℚ, zeroℚ, oneℚ, ◌*ℚ◌, neg_ℚ, inverse}
 use Rattle.rational.specs.Lists.{at, scale_list}
 use Rattle.rational.proofs.Ring.{law, minus, num, ◌⊗◌, ◌≐◌}
@@ -15,14 +15,13 @@ use Rattle.exact_lin.specs.Reckoning.{Fits, CanMultiply}
 use Rattle.exact_lin.specs.Forms.{Terms, AscendFrom, Covers, coefficient}
 use Rattle.exact_lin.proofs.Results.{fits-product, fits-inverse, fits-neg}
 use Rattle.exact_lin.proofs.Nothing.{adds_nothing_right}
-use Rattle.exact_lin.proofs.MergeTerms.{coefficient-here, coefficient-later, coefficient-below}
+use Rattle.exact_lin.proofs.MergeTerms.{coefficient-here, coefficient-later}
 use Rattle.lp_tableau.specs.Pivots.{solved, CanSolve}
-use Rattle.lp_tableau.specs.RowLists.{RowFits}
 use Rattle.lp_tableau.proofs.RowPlaces.{length-solved}
 use Rattle.lp_tableau.proofs.Solving.{same_or_not}
 use Rattle.lp_tableau.proofs.Writing.{last_or_before}
 use Rattle.lp_tableau.proofs.Growing.{grown}
-use Rattle.lp_sparse.specs.SparseRows.{filled, terms_of, scaled_term, scaled_terms, CanScaleTerms, IsSparse, IsRow, IsSolved}
+use Rattle.lp_sparse.specs.SparseRows.{filled, terms_of, scaled_term, scaled_terms, CanScaleTerms, IsRow, IsSolved}
 use Rattle.lp_sparse.proofs.Coefficients.{term_of, terms_of-at, length-terms_of, length-filled, at-filled, filled-is}
 
 -- ---- numbers that aren't 0

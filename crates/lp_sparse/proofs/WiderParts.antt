@@ -1,7 +1,7 @@
 -- The same rows in parts of 128 bits.
 use Rattle.std.proofs.Common.{◌≡◌, ℕ, ◌+◌, ◌<◌, ◌≤◌, List, [], ◌∷◌, ◌++◌, length, map, take, sym, ap, subst, ◌∙◌, get_or, arith}
 use Rattle.std.specs.Prelude.{Vec}
-use Rattle.std.proofs.lemmas.List.{length-map, get_or-map, take_more}
+use Rattle.std.proofs.lemmas.List.{get_or-map, take_more}
 use Rattle.rational.specs.Rational.{ℚ}
 use Rattle.exact_lin.specs.Reckoning.{Fits, narrow_limit, wide_limit}
 use Rattle.exact_lin.specs.Limits.{narrow-below_wide}

@@ -8,3 +8,4 @@ pub mod Stops
 pub mod NarrowPrograms
 pub mod Widths
 pub mod NonzeroMultipliers
+pub mod NarrowNumbers

@@ -1,6 +1,6 @@
 //! Dictionaries of linear programs on rows without their zeros, and what can be read off them.
 
-ghost use Rattle.std.specs.Prelude.{◌≡◌, ℕ, length, map, IfOk, OnErr};
+ghost use Rattle.std.specs.Prelude.{◌≡◌, ℕ, length, map, IfOk, IfSome, OnErr, MatchOption};
 ghost use Rattle.cert_core.specs.Programs.{Program, Solves, cost_at, CostsAtLeast, ProvesCost, ProvesEmpty};
 ghost use Rattle.rational.specs.Rational.{ℚ};
 ghost use Rattle.lp_tableau.specs.Chains.{EndsOptimal, EndsInfeasible};
@@ -9,8 +9,10 @@ ghost use Rattle.lp_tableau.specs.Meanings.{StandsFor};
 ghost use Rattle.lp_tableau.specs.Assignments.{point_of};
 ghost use Rattle.lp_tableau.specs.Multipliers.{dual_of, farkas_of, numbered};
 ghost use Rattle.lp_tableau.specs.Outcomes.{IsOutcome};
+ghost use Rattle.lp_sparse.specs.NarrowPrograms.{IsNarrow};
 ghost use Rattle.lp_sparse.specs.Stops.{IsStopped};
 
+use crate::narrow::narrow_tableau;
 use crate::results::{write_dual, write_farkas, write_point};
 use crate::rules::leaving;
 use crate::start::first_tableau;
@@ -129,6 +131,27 @@ impl<R: Id, V: Id, S: Scalar> SparseDictionary<R, V, S> {
 }
 
 impl<R: Id, V: Id> SparseDictionary<R, V, Narrow> {
+    /// The first dictionary of the program in parts of 64 bits; None where one of the program's numbers has none.
+    pub fn narrow_from<P: Rows<R, V, Fraction>>(
+        alloc: Global,
+        program: &P,
+    ) -> Result<Option<SparseDictionary<R, V, Narrow>>, NoMemory>
+        requires { (q : ℚ) × CostsAtLeast (P.program program.now) q }
+        ensures value { IfOk result (λ found. MatchOption found (¬ IsNarrow (P.program program.now))
+            (λ d. IsNarrow (P.program program.now) × d ≡ initial (P.program program.now))) }
+        ensures stands { IfOk result (λ found. IfSome found (StandsFor (P.program program.now))) }
+    {
+        let wide = first_tableau(alloc, program)?;
+        match narrow_tableau(alloc, wide)? {
+            Some(tableau) => Ok(Some(SparseDictionary {
+                tableau,
+                spare: Vec::new(alloc),
+                ids: PhantomData,
+            })),
+            None => Ok(None),
+        }
+    }
+
     /// The same dictionary in parts of 128 bits.
     pub fn widen(&self, alloc: Global) -> Result<SparseDictionary<R, V, Fraction>, NoMemory>
         ensures { IfOk result (λ d. d ≡ self.now) }

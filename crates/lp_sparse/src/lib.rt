@@ -8,6 +8,7 @@ mod mixed;
 mod multipliers;
 mod narrow;
 mod pivot;
+mod products;
 mod read_as;
 mod results;
 mod rows;

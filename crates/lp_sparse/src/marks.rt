@@ -1,6 +1,6 @@
 //! Which rows may hold which column, so that a pivot passes the others over without reading them.
 
-ghost use Rattle.std.specs.Prelude.{◌≡◌, ℕ, true, false, IfOk, slice_index_or};
+ghost use Rattle.std.specs.Prelude.{◌≡◌, ℕ, ◌≤◌, ◌<◌, true, false, IfOk, slice_index_or};
 ghost use Rattle.lp_sparse.specs.SparseRows.{terms_of, terms_of_rows};
 ghost use Rattle.lp_sparse.specs.ColumnMarks.{marks_of, may_hold, IsMarked, AreMarked, Keeps};
 
@@ -17,6 +17,36 @@ pub(crate) fn may_hold(marks: &[Vec<bool>], column: usize, k: usize) -> bool
             None => true,
         },
         None => true,
+    }
+}
+
+// The first of the marks from k on that is set, or past the last; `count` where that is less.
+fn next_mark(column: &[bool], k: usize, count: usize) -> usize
+    requires { k ≤ count }
+    ensures from { k ≤ result }
+    ensures within { result ≤ count }
+    ensures passed { (m : ℕ) → k ≤ m → m < result → slice_index_or column.now m true ≡ false }
+{
+    let mut next = k;
+    while next < count {
+        if next >= column.len() || column[next] {
+            return next;
+        }
+        next += 1;
+    }
+    next
+}
+
+// The first row from k on that may hold the column, or `count` where there is none below it.
+pub(crate) fn next_holding(marks: &[Vec<bool>], column: usize, k: usize, count: usize) -> usize
+    requires { k ≤ count }
+    ensures from { k ≤ result }
+    ensures within { result ≤ count }
+    ensures passed { (m : ℕ) → k ≤ m → m < result → may_hold (marks_of marks.now) column m ≡ false }
+{
+    match marks.get(column) {
+        Some(rows) => next_mark(rows, k, count),
+        None => k,
     }
 }
 

@@ -8,7 +8,9 @@ ghost use Rattle.exact_lin.specs.Forms.{AscendFrom, with_term, is_zero, increase
 ghost use Rattle.exact_lin.specs.Merges.{CanMerge, KeepsBelow, CanJoin, joined_coefficient, behind, MergesTerm};
 ghost use Rattle.lp_sparse.specs.SparseRows.{terms_of};
 
+use crate::products::product_of;
 use exact_lin::{FormFault, NoMemory, Scalar, Sign, Wide};
+use std::alloc::Global;
 
 // Whether x is 0; and that it keeps to the limit of its width.
 pub(crate) fn vanishes<S: Scalar>(x: S) -> bool
@@ -20,6 +22,24 @@ pub(crate) fn vanishes<S: Scalar>(x: S) -> bool
         Sign::Minus => false,
         Sign::Plus => false,
     }
+}
+
+// A row has room for so many terms at least, since pivots fill it.
+const LEAST_ROOM: usize = 8;
+
+// An empty row with room for so many terms and the constant.
+pub(crate) fn row_with_room<S: Scalar>(
+    alloc: Global,
+    terms: usize,
+) -> Result<Vec<(usize, S)>, NoMemory>
+    ensures { IfOk result (λ row. row.items ≡ []) }
+{
+    let room = if terms < LEAST_ROOM {
+        LEAST_ROOM
+    } else {
+        terms.checked_add(1).unwrap_or(terms)
+    };
+    Ok(Vec::with_capacity(alloc, room)?)
 }
 
 // `Vec::push` with the error of this crate.
@@ -107,7 +127,7 @@ fn merge_term<'a, S: Scalar>(
         ¬ (CanMerge S.limit (S.value by) ((term.0, S.value term.1) ∷ us)
         (terms_of S.value left.now)) }
 {
-    let product = by.mul(term.1)?;
+    let product = product_of(by, term.1)?;
     let rest = keep_below(sum, left, term.0)?;
     let (coefficient, later) = join_first(rest, term.0, product)?;
     push_term(sum, term.0, coefficient)?;

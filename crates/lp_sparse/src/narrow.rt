@@ -1,170 +1,75 @@
-//! Programs whose numbers all have parts of 64 bits.
+//! Dictionaries in parts of 64 bits.
 
-ghost use Rattle.std.specs.Prelude.{◌≡◌, ℕ, ◌<◌, length, IfOk, IfSome, MatchOption};
-ghost use Rattle.std.specs.Bool.{MatchBool};
-ghost use Rattle.rational.specs.Rational.{ℚ};
-ghost use Rattle.exact_lin.specs.Reckoning.{Fits, narrow_limit};
-ghost use Rattle.cert_core.specs.Programs.{entry_of, cost_of, CostsAtLeast};
-ghost use Rattle.lp_tableau.specs.Dictionaries.{initial};
-ghost use Rattle.lp_tableau.specs.Meanings.{StandsFor};
-ghost use Rattle.lp_sparse.specs.NarrowPrograms.{IsNarrow, IsNarrowRow};
+ghost use Rattle.std.specs.Prelude.{◌≡◌, IfOk, MatchOption};
+ghost use Rattle.exact_lin.specs.Reckoning.{narrow_limit, wide_limit};
+ghost use Rattle.lp_sparse.specs.NarrowNumbers.{TermsFit, RowTermsFit, HasNarrowNumbers};
+ghost use Rattle.lp_sparse.specs.SparseRows.{terms_of, terms_of_rows};
+ghost use Rattle.lp_sparse.specs.SparseTableaus.{AreRows, dictionary_of};
 
-use crate::dictionary::SparseDictionary;
-use cert_core::Rows;
-use exact_lin::{Fraction, Id, Narrow, NoMemory};
+use crate::merge::row_with_room;
+use crate::tableau::Tableau;
+use exact_lin::{Fraction, Narrow, NoMemory};
 use std::alloc::Global;
-use std::marker::PhantomData;
 
-fn fits(x: Fraction) -> bool
-    ensures { MatchBool result (Fits narrow_limit x) (¬ Fits narrow_limit x) }
+// The terms in parts of 64 bits; None where a number has none.
+fn narrow_row(
+    alloc: Global,
+    row: &[(usize, Fraction)],
+) -> Result<Option<Vec<(usize, Narrow)>>, NoMemory>
+    ensures { IfOk result (λ found. MatchOption found (¬ TermsFit narrow_limit (terms_of (λ q. q) row.now))
+        (λ v. TermsFit narrow_limit (terms_of (λ q. q) row.now) × v.items ≡ row.now)) }
 {
-    match x.narrow() {
-        Some(_) => true,
-        None => false,
-    }
-}
-
-// Whether each entry of the row has parts of 64 bits.
-fn entries_fit<R: Id, V: Id, P: Rows<R, V, Fraction>>(program: &P, r: R) -> bool
-    requires { R.number_of r < length (P.program program.now).rows }
-    ensures { MatchBool result
-        ((v : ℕ) → v < length (P.program program.now).costs
-        → Fits narrow_limit (entry_of (P.program program.now) (R.number_of r) v))
-        (¬ ((v : ℕ) → v < length (P.program program.now).costs
-        → Fits narrow_limit (entry_of (P.program program.now) (R.number_of r) v))) }
-{
-    for v in 0..program.var_count() {
-        if !fits(program.entry(r, V::of(v))) {
-            return false;
+    let mut out = row_with_room(alloc, row.len())?;
+    for term in row {
+        match term.1.narrow() {
+            Some(number) => out.push((term.0, number))?,
+            None => return Ok(None),
         }
     }
-    true
+    Ok(Some(out))
 }
 
-// Whether the row has: its entries and its bound.
-fn row_fits<R: Id, V: Id, P: Rows<R, V, Fraction>>(program: &P, r: R) -> bool
-    requires { R.number_of r < length (P.program program.now).rows }
-    ensures { MatchBool result (IsNarrowRow (P.program program.now) (R.number_of r))
-        (¬ IsNarrowRow (P.program program.now) (R.number_of r)) }
+// The terms of each row.
+fn narrow_rows(
+    alloc: Global,
+    rows: &[Vec<(usize, Fraction)>],
+) -> Result<Option<Vec<Vec<(usize, Narrow)>>>, NoMemory>
+    ensures { let terms = terms_of_rows (λ q. q) rows.now in
+        IfOk result (λ found. MatchOption found (¬ RowTermsFit narrow_limit terms)
+        (λ v. RowTermsFit narrow_limit terms × terms_of_rows (λ q. q) v.items ≡ terms)) }
 {
-    if entries_fit(program, r) {
-        fits(program.bound(r))
-    } else {
-        false
-    }
-}
-
-fn rows_fit<R: Id, V: Id, P: Rows<R, V, Fraction>>(program: &P) -> bool
-    ensures { MatchBool result
-        ((r : ℕ) → r < length (P.program program.now).rows → IsNarrowRow (P.program program.now) r)
-        (¬ ((r : ℕ) → r < length (P.program program.now).rows
-        → IsNarrowRow (P.program program.now) r)) }
-{
-    for r in 0..program.row_count() {
-        if !row_fits(program, R::of(r)) {
-            return false;
+    let mut out = Vec::with_capacity(alloc, rows.len())?;
+    for row in rows {
+        match narrow_row(alloc, row)? {
+            Some(more) => out.push(more)?,
+            None => return Ok(None),
         }
     }
-    true
+    Ok(Some(out))
 }
 
-fn costs_fit<R: Id, V: Id, P: Rows<R, V, Fraction>>(program: &P) -> bool
-    ensures { MatchBool result
-        ((v : ℕ) → v < length (P.program program.now).costs
-        → Fits narrow_limit (cost_of (P.program program.now) v))
-        (¬ ((v : ℕ) → v < length (P.program program.now).costs
-        → Fits narrow_limit (cost_of (P.program program.now) v))) }
+// The same dictionary; None where one of its numbers has no parts of 64 bits.
+pub(crate) fn narrow_tableau(
+    alloc: Global,
+    t: Tableau<Fraction>,
+) -> Result<Option<Tableau<Narrow>>, NoMemory>
+    requires { AreRows (λ q. q) wide_limit t }
+    ensures { IfOk result (λ found. MatchOption found
+        (¬ HasNarrowNumbers (dictionary_of (λ q. q) t))
+        (λ u. HasNarrowNumbers (dictionary_of (λ q. q) t) × AreRows (λ q. q) narrow_limit u
+        × dictionary_of (λ q. q) u ≡ dictionary_of (λ q. q) t)) }
 {
-    for v in 0..program.var_count() {
-        if !fits(program.cost(V::of(v))) {
-            return false;
-        }
-    }
-    true
-}
-
-// Whether each number of the program has parts of 64 bits.
-fn is_narrow<R: Id, V: Id, P: Rows<R, V, Fraction>>(program: &P) -> bool
-    ensures { MatchBool result (IsNarrow (P.program program.now))
-        (¬ IsNarrow (P.program program.now)) }
-{
-    if !rows_fit(program) {
-        return false;
-    }
-    if !costs_fit(program) {
-        return false;
-    }
-    fits(program.base())
-}
-
-// A number that has them.
-fn narrowed(x: Fraction) -> Narrow
-    requires { Fits narrow_limit x }
-    ensures { result ≡ x }
-{
-    match x.narrow() {
-        Some(narrow) => narrow,
-        None => unreachable!(),
-    }
-}
-
-// A program of such numbers, in parts of 64 bits.
-#[derive(Drop)]
-struct NarrowRows<'a, R: Id, V: Id, P: Rows<R, V, Fraction>> {
-    program: &'a P,
-    ids: PhantomData<(R, V)>,
-    ghost narrow: { IsNarrow (P.program program.now) },
-}
-
-impl<'a, R: Id, V: Id, P: Rows<R, V, Fraction>> Rows<R, V, Narrow> for NarrowRows<'a, R, V, P> {
-    ghost program = { λ n. P.program n.program.now };
-
-    fn row_count(&self) -> u32 {
-        self.program.row_count()
-    }
-
-    fn var_count(&self) -> u32 {
-        self.program.var_count()
-    }
-
-    fn entry(&self, r: R, v: V) -> Narrow {
-        narrowed(self.program.entry(r, v))
-    }
-
-    fn bound(&self, r: R) -> Narrow {
-        narrowed(self.program.bound(r))
-    }
-
-    fn cost(&self, v: V) -> Narrow {
-        narrowed(self.program.cost(v))
-    }
-
-    fn base(&self) -> Narrow {
-        narrowed(self.program.base())
-    }
-
-    ghost even = { λ n. P.even n.program.now };
-}
-
-impl<R: Id, V: Id> SparseDictionary<R, V, Narrow> {
-    /// The first dictionary of the program in parts of 64 bits; None where one of the program's numbers has none.
-    pub fn narrow_from<P: Rows<R, V, Fraction>>(
-        alloc: Global,
-        program: &P,
-    ) -> Result<Option<SparseDictionary<R, V, Narrow>>, NoMemory>
-        requires { (q : ℚ) × CostsAtLeast (P.program program.now) q }
-        ensures value { IfOk result (λ found. MatchOption found (¬ IsNarrow (P.program program.now))
-            (λ d. IsNarrow (P.program program.now) × d ≡ initial (P.program program.now))) }
-        ensures stands { IfOk result (λ found. IfSome found (StandsFor (P.program program.now))) }
-    {
-        if !is_narrow(program) {
-            return Ok(None);
-        }
-        let narrow = NarrowRows {
-            program,
-            ids: PhantomData,
-        };
-        let dictionary = SparseDictionary::new(alloc, &narrow)?;
-        Ok(Some(dictionary))
+    match narrow_rows(alloc, &t.rows)? {
+        Some(rows) => match narrow_row(alloc, &t.cost)? {
+            Some(cost) => Ok(Some(Tableau {
+                basic: t.basic,
+                nonbasic: t.nonbasic,
+                rows,
+                cost,
+                marks: t.marks,
+            })),
+            None => Ok(None),
+        },
+        None => Ok(None),
     }
 }

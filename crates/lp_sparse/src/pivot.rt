@@ -11,8 +11,9 @@ ghost use Rattle.lp_sparse.specs.SparsePivots.{whole_of, IsReckoned};
 ghost use Rattle.lp_sparse.specs.ColumnMarks.{marks_of, AreMarked};
 ghost use Rattle.lp_sparse.specs.SparseTableaus.{AreRows, dictionary_of, width_of};
 
-use crate::marks::{mark_row, may_hold};
+use crate::marks::{mark_row, next_holding};
 use crate::merge::{merge, push_term};
+use crate::products::product_of;
 use crate::rows::{Halves, part_at};
 use crate::solving::{solve_row, spare_row};
 use crate::tableau::Tableau;
@@ -45,7 +46,7 @@ fn join<S: Scalar>(
         (shows solution.now.front.now) (S.value solution.now.number) (shows solution.now.back.now) }
 {
     merge(out, row.front, row.number, solution.front)?;
-    let product = row.number.mul(solution.number)?;
+    let product = product_of(row.number, solution.number)?;
     push_term(out, j, product)?;
     match merge(out, row.back, row.number, solution.back) {
         Ok(()) => Ok(()),
@@ -106,9 +107,6 @@ fn reckon_row<S: Scalar>(
     if k == i {
         return Ok(None);
     }
-    if !may_hold(&t.marks, j, k) {
-        return Ok(None);
-    }
     match replace(&t.rows[k], solution, j, spare) {
         Ok(row) => Ok(row),
         Err(fault) => Err(fault),
@@ -153,7 +151,9 @@ fn reckon_rows<S: Scalar>(
         (dictionary_of S.value t.now).rows }
 {
     let mut changes = Vec::new(*spare.allocator());
-    for k in 0..t.rows.len() {
+    let count = t.rows.len();
+    let mut k = next_holding(&t.marks, j, 0, count);
+    while k < count {
         match reckon_row(t, k, solution, i, j, spare) {
             Ok(row) => match note(&mut changes, k, row) {
                 Ok(()) => {},
@@ -161,6 +161,7 @@ fn reckon_rows<S: Scalar>(
             },
             Err(fault) => return Err(fault),
         }
+        k = next_holding(&t.marks, j, k + 1, count);
     }
     Ok(changes)
 }

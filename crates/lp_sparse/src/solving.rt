@@ -9,6 +9,7 @@ ghost use Rattle.lp_tableau.specs.Pivots.{CanSolve};
 ghost use Rattle.lp_sparse.specs.SparseRows.{terms_of, filled, scaled_term, scaled_terms, CanScaleTerms, IsRow, IsSolved};
 
 use crate::merge::push;
+use crate::products::product_of;
 use crate::rows::entry_in;
 use exact_lin::{FormFault, Scalar, Wide};
 
@@ -39,7 +40,7 @@ fn solved_term<S: Scalar>(
         ≡ scaled_term (S.value y) (S.value reciprocal) j (term.0, S.value term.1))
         (λ _. ¬ CanMultiply S.limit (S.value y) (S.value term.1)) }
 {
-    match y.mul(term.1) {
+    match product_of(y, term.1) {
         Ok(product) => if term.0 == j {
             Ok((term.0, reciprocal))
         } else {

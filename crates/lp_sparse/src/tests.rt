@@ -1,8 +1,9 @@
 //! Small programs, solved by the dense form and by both sparse ones.
 
-ghost use Rattle.std.specs.Prelude.{◌≡◌, length, IsTrue, IfOk, IfSome};
+ghost use Rattle.std.specs.Prelude.{◌≡◌, ℕ, length, IsTrue, IfOk, IfSome};
 ghost use Rattle.rational.specs.Rational.{ℚ};
 ghost use Rattle.cert_core.specs.Programs.{CostsAtLeast};
+ghost use Rattle.lp_tableau.specs.Chains.{EndsInfeasible, EndsOptimal};
 
 use crate::{MixedDictionary, SparseDictionary, nonzero_pairs};
 use cert_core::{DualRow, Rows, check_dual};
@@ -279,45 +280,84 @@ fn are(found: &[Fraction], wanted: &[i32]) -> bool {
             .all(|(x, n)| *x == Fraction::of_int(*n))
 }
 
-// Whether the sparse form gives what the case says.
-fn sparse_gives(alloc: Global, case: &Case) -> Result<bool, NoMemory> {
-    let Some(mut dictionary) = sparse_of(alloc, &case.program, case.floor)? else {
-        return Ok(false);
-    };
-    let mut cost = Fraction::of_int(0);
+// Whether an optimal dictionary gives what the case says.
+fn sparse_costs(dictionary: &SparseDictionary<RowId, VarId, Fraction>, case: &Case) -> bool
+    requires optimal { EndsOptimal dictionary.now }
+    requires rows { length dictionary.now.rows ≡ 3 }
+    requires variables { length dictionary.now.nonbasic ≡ 2 }
+{
     let mut point = [Fraction::of_int(0); 2];
+    dictionary.point_into(&mut point);
     let mut multipliers = [Fraction::of_int(0); 3];
-    match dictionary.solve(9)? {
-        Outcome::Optimal => {
-            cost = dictionary.value();
-            dictionary.point_into(&mut point);
-            dictionary.dual_into(&mut multipliers);
+    dictionary.dual_into(&mut multipliers);
+    are(&multipliers, &case.multipliers)
+        && are(&point, &case.point)
+        && dictionary.value() == Fraction::of_int(case.cost)
+}
+
+// Whether one without a solution gives the multipliers that the case says.
+fn sparse_has_none(dictionary: &SparseDictionary<RowId, VarId, Fraction>, case: &Case) -> bool
+    requires infeasible { (i : ℕ) × EndsInfeasible dictionary.now i }
+    requires rows { length dictionary.now.rows ≡ 3 }
+{
+    let mut multipliers = [Fraction::of_int(0); 3];
+    dictionary.farkas_into(&mut multipliers);
+    are(&multipliers, &case.multipliers)
+}
+
+// Whether the sparse form ends as the case says and gives what it says.
+fn sparse_gives(alloc: Global, case: &Case) -> Result<bool, NoMemory> {
+    match sparse_of(alloc, &case.program, case.floor)? {
+        Some(mut dictionary) => match dictionary.solve(9)? {
+            Outcome::Optimal => {
+                Ok(case.outcome == Outcome::Optimal && sparse_costs(&dictionary, case))
+            },
+            Outcome::Infeasible => {
+                Ok(case.outcome == Outcome::Infeasible && sparse_has_none(&dictionary, case))
+            },
+            Outcome::Spent(_) | Outcome::Wide(_) => Ok(false),
         },
-        Outcome::Infeasible => dictionary.farkas_into(&mut multipliers),
-        Outcome::Spent(_) | Outcome::Wide(_) => {},
+        None => Ok(false),
     }
-    let proved = are(&multipliers, &case.multipliers);
-    Ok(proved && are(&point, &case.point) && cost == Fraction::of_int(case.cost))
+}
+
+// The same of the mixed form.
+fn mixed_costs(dictionary: &MixedDictionary<RowId, VarId>, case: &Case) -> bool
+    requires optimal { EndsOptimal dictionary.now }
+    requires rows { length dictionary.now.rows ≡ 3 }
+    requires variables { length dictionary.now.nonbasic ≡ 2 }
+{
+    let mut point = [Fraction::of_int(0); 2];
+    dictionary.point_into(&mut point);
+    let mut multipliers = [Fraction::of_int(0); 3];
+    dictionary.dual_into(&mut multipliers);
+    are(&multipliers, &case.multipliers)
+        && are(&point, &case.point)
+        && dictionary.value() == Fraction::of_int(case.cost)
+}
+
+fn mixed_has_none(dictionary: &MixedDictionary<RowId, VarId>, case: &Case) -> bool
+    requires infeasible { (i : ℕ) × EndsInfeasible dictionary.now i }
+    requires rows { length dictionary.now.rows ≡ 3 }
+{
+    let mut multipliers = [Fraction::of_int(0); 3];
+    dictionary.farkas_into(&mut multipliers);
+    are(&multipliers, &case.multipliers)
 }
 
 fn mixed_gives(alloc: Global, case: &Case) -> Result<bool, NoMemory> {
-    let Some(mut dictionary) = mixed_of(alloc, &case.program, case.floor)? else {
-        return Ok(false);
-    };
-    let mut cost = Fraction::of_int(0);
-    let mut point = [Fraction::of_int(0); 2];
-    let mut multipliers = [Fraction::of_int(0); 3];
-    match dictionary.solve(9)? {
-        Outcome::Optimal => {
-            cost = dictionary.value();
-            dictionary.point_into(&mut point);
-            dictionary.dual_into(&mut multipliers);
+    match mixed_of(alloc, &case.program, case.floor)? {
+        Some(mut dictionary) => match dictionary.solve(9)? {
+            Outcome::Optimal => {
+                Ok(case.outcome == Outcome::Optimal && mixed_costs(&dictionary, case))
+            },
+            Outcome::Infeasible => {
+                Ok(case.outcome == Outcome::Infeasible && mixed_has_none(&dictionary, case))
+            },
+            Outcome::Spent(_) | Outcome::Wide(_) => Ok(false),
         },
-        Outcome::Infeasible => dictionary.farkas_into(&mut multipliers),
-        Outcome::Spent(_) | Outcome::Wide(_) => {},
+        None => Ok(false),
     }
-    let proved = are(&multipliers, &case.multipliers);
-    Ok(proved && are(&point, &case.point) && cost == Fraction::of_int(case.cost))
 }
 
 fn line(a: i32, b: i32, bound: i32) -> Inequality {

@@ -1,4 +1,4 @@
-use Rattle.std.proofs.Common.{sym, subst}
+use Rattle.std.proofs.Common.{subst}
 use Rattle.exact_lin.specs.Forms.{AscendFrom}
 use Rattle.exact_lin.proofs.Edits.{IsErrOf-other}
 use Rattle.lp_sparse.specs.SparseRows.{terms_of}

@@ -1,4 +1,4 @@
-use Rattle.std.proofs.Common.{ℕ, subst, sym, ap, ◌∙◌, ◌≤◌, length}
+use Rattle.std.proofs.Common.{ℕ, subst, sym, ◌≤◌, length}
 use Rattle.std.proofs.lemmas.List.{nil_from_length}
 use Rattle.exact_lin.proofs.Places.{shown-place_within}
 use Rattle.lp_sparse.proofs.RowParts.{none-left, other-there}

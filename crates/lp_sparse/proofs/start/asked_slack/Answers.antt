@@ -5,7 +5,7 @@ use Rattle.cert_core.specs.Programs.{entry_of}
 use Rattle.lp_tableau.specs.Dictionaries.{slack_row}
 use Rattle.lp_sparse.specs.SparseRows.{terms_of}
 use Rattle.lp_sparse.proofs.FirstRows.{RowOf-start, RowOf-next, RowOf-last, slack-entry, factors-length, with_last-length}
-use Rattle.lp_sparse.proofs.start.slack.Goals as goal
+use Rattle.lp_sparse.proofs.start.asked_slack.Goals as goal
 
 pub loop-v-init : goal.loop-v-init
 loop-v-init g c = RowOf-start g.S.Scalar.value g.S.Scalar.limit (slack_row (row_at (g.P.Rows.program c.args.program.now).rows (g.R.Id.number_of c.args.r))) c.new-row.result.items c.new-row.ensures.items
