@@ -9,7 +9,7 @@ use Rattle.basics.proofs.Naturals.{le_in, le_out, lt_out}
 use Rattle.basics.proofs.Lists.{all_in, all_out, filter-shorter, each_append, each_left, each_right}
 use Rattle.rational.specs.Rational.{ℚ, zeroℚ}
 use Rattle.rational.proofs.Inequalities.{le_from_eq}
-use Rattle.exact_lin.specs.Forms.{LinearForm, Terms, IsForm, coefficient}
+use Rattle.exact_lin.specs.Forms.{LinearForm, Terms, IsForm, coefficient, constant_form}
 use Rattle.task_types.specs.declared.conditions.Literal.{Literal}
 use Rattle.task_types.specs.declared.costs.Soft.TheVariants as soft
 use Rattle.task_types.specs.declared.formulas.FactTree.{FactTree}
@@ -35,15 +35,15 @@ use Rattle.pddl_names.specs.Declarations.{Text, among}
 use Rattle.ground_world.specs.World.{Env, either, GroundAtom, ground_atom, symbol}
 use Rattle.ground_world.specs.Bindings.{nested_bindings}
 use Rattle.ground_world.specs.Changes.{atoms_in, changes}
-use Rattle.ground_world.specs.FirstState.{world, changed_predicate, changed_predicates, timed_predicate}
+use Rattle.ground_world.specs.FirstState.{world, changed_predicate, changed_predicates, timed_predicate, no_places}
 use Rattle.ground_world.specs.Conditions.{Part, Lit, Same, Compares}
 use Rattle.ground_world.specs.Expressions.{own_unknown, preference_unknown, cost_unknown, unknown, reckoned, form_or_zero}
-use Rattle.ground_world.specs.Leaves.{Leaf, Named, Cost, goal_preferences, constraint_leaves, constraints, costs, leaf_envs, unknowns, toward, minimised}
+use Rattle.ground_world.specs.Leaves.{Leaf, Named, Cost, goal_preferences, constraint_leaves, constraints, costs, leaf_envs, unknowns, toward, minimised, minimised_value}
 use Rattle.ground_world.specs.Counts.{bindings_fit, fit_limits, formula_count, soft_count, trajectory_count, goal_count, around_count}
 use Rattle.ground_world.proofs.Walks as below
 use Rattle.grounder.specs.Terms.{PreferencePart, part_atoms, preference_atoms, preference_parts, formulas_in, comparisons_in, formula, formula_atoms, goal_parts, goal_atoms, constraint_atoms, watched, watched_atoms}
 use Rattle.grounder.specs.Task.{grounding, fact_atoms, mentioned_atoms, fact_number, compared, literal_of, goal_forms_in, goal_condition, Timing, timing, timings, moments, literals_at, timed_snap, metric, preference_weight, cost_weight, all_of, goal_soft, trail_of, hard_of, soft_of, soft_cost, hard_terms, soft_terms}
-use Rattle.grounder.specs.Accepted.{is_binding, curve_fits, IsAccepted}
+use Rattle.grounder.specs.Accepted.{is_binding, curve_fits, IsAccepted, weighs_right}
 use Rattle.grounder.proofs.Each.{each_weaker, each_both, each_map, map_each, each_flat_map, flat_map_each, each_filter, each_everywhere}
 use Rattle.grounder.proofs.Placing.{with_new-has}
 use Rattle.grounder.proofs.Stepping.{Rising, rising-with}
@@ -56,6 +56,7 @@ use Rattle.grounder.proofs.Kept.{Within, each_within}
 use Rattle.grounder.proofs.WorldFacts.{fact-known, predicate-changes}
 use Rattle.grounder.proofs.Conditions.{IsOver, short-list, over_fluents-fits, compared-fits, atom-numbered}
 use Rattle.grounder.proofs.Effects.{zero-is}
+use Rattle.grounder.proofs.Passed.{HasValues}
 
 zero-at_most : (zeroℚ ≤? zeroℚ) ≡ true
 zero-at_most = rational_le zeroℚ zeroℚ (le_from_eq zeroℚ zeroℚ refl)
@@ -80,7 +81,7 @@ single-limit parts h = by (nat_le parts 65536) refl h
     by true e k = le_out parts 65536 e
     by false e k = cc
 
-module _ (d : Domain) (p : Problem) (ok : IsAccepted d p) (fit : bindings_fit (world d p) d p ≡ true) (task : TaskParts) (over : IsOver (grounding d p) task) where
+module _ (d : Domain) (p : Problem) (ok : IsAccepted d p) (fit : bindings_fit (world d p) d p ≡ true) (valued : HasValues (world d p) p.metric) (task : TaskParts) (over : IsOver (grounding d p) task) where
   abbrev Known : GroundAtom → Type 0
   Known a = among (fact_atoms (world d p) d p) a ≡ true
 
@@ -277,7 +278,22 @@ module _ (d : Domain) (p : Problem) (ok : IsAccepted d p) (fit : bindings_fit (w
   -- ---- weights
 
   weight-nonneg : (v : ℕ) → own_unknown (world d p) ≤ v → (zeroℚ ≤? coefficient (minimised (world d p) d p).terms v) ≡ true
-  weight-nonneg v l = nonneg-coefficient (own_unknown (world d p)) (minimised (world d p) d p).terms ok.weights v l
+  weight-nonneg v l = by p.metric valued ok.weights
+    where
+      no_value : (a : Aim) → (zeroℚ ≤? coefficient (toward a (constant_form zeroℚ)).terms v) ≡ true
+      no_value Minimize = zero-at_most
+      no_value Maximize = zero-at_most
+
+      reckoned_to : (a : Aim) (o : Option LinearForm) → either true (weighs_right (world d p)) (either None (λ f. Some (toward a f)) o) ≡ true
+          → (zeroℚ ≤? coefficient (toward a (either (constant_form zeroℚ) (λ f. f) o)).terms v) ≡ true
+      reckoned_to a None h = no_value a
+      reckoned_to a (Some f) h = nonneg-coefficient (own_unknown (world d p)) (toward a f).terms h v l
+
+      by : (o : Option Metric) → HasValues (world d p) o → either true (weighs_right (world d p)) (minimised_value (world d p) (unknowns d p) o) ≡ true
+          → (zeroℚ ≤? coefficient (either (unknown (own_unknown (world d p))) (λ m. toward m.aim (form_or_zero (reckoned (world d p) (unknowns d p) [] m.expression))) o).terms v) ≡ true
+      by None known h = nonneg-coefficient (own_unknown (world d p)) (unknown (own_unknown (world d p))).terms h v l
+      by (Some m) known h = reckoned_to m.aim (reckoned (world d p) (unknowns d p) [] m.expression).value
+          (subst (λ ps. either true (weighs_right (world d p)) (if no_places ps then either None (λ f. Some (toward m.aim f)) (reckoned (world d p) (unknowns d p) [] m.expression).value else None) ≡ true) (known m refl) h)
 
   preference-nonneg : (n : Text) → (zeroℚ ≤? preference_weight (grounding d p) n) ≡ true
   preference-nonneg n = weight-nonneg (preference_unknown (world d p) (unknowns d p) n) (omega arith)

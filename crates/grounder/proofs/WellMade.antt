@@ -109,7 +109,7 @@ module _ (d : Domain) (p : Problem) (ok : IsAccepted d p) (pass : IsPassed d p) 
       (all_append (snap_fits (ground_task d p)) own_snaps timed_snaps
       (all_in (snap_fits (ground_task d p)) own_snaps (snaps-fit d p ok (ground_task d p) (over d p ok pass) (schemas-is d p) (kept (world d p) d.actions) sound many_actions))
       (all_in (snap_fits (ground_task d p)) timed_snaps (each_map (λ s. snap_fits (ground_task d p) s ≡ true) (timed_snap (grounding d p) (timings (world d p) p.init)) ms
-      (each_everywhere (λ t. snap_fits (ground_task d p) (timed_snap (grounding d p) (timings (world d p) p.init) t) ≡ true) (timed-fits d p ok pass.bindings (ground_task d p) (over d p ok pass)) ms)))))
+      (each_everywhere (λ t. snap_fits (ground_task d p) (timed_snap (grounding d p) (timings (world d p) p.init) t) ≡ true) (timed-fits d p ok pass.bindings pass.valued (ground_task d p) (over d p ok pass)) ms)))))
 
   numbered-ok : ((length (ground_task d p).snaps == snap_total (ground_task d p).actions + length (ground_task d p).timed) && are_numbered (ground_task d p) 0 0 (ground_task d p).actions) ≡ true
   numbered-ok = and_in _ _ (same_in (length (ground_task d p).snaps) (snap_total (ground_task d p).actions + length (ground_task d p).timed) many_snaps)
@@ -120,12 +120,12 @@ module _ (d : Domain) (p : Problem) (ok : IsAccepted d p) (pass : IsPassed d p) 
       (subst (λ ts. are_timed (ground_task d p) (snap_total (ground_task d p).actions) ts ≡ true) (sym (timed-is d p))
       (steps-timed (grounding d p) (ground_task d p) (timed_snap (grounding d p) (timings (world d p) p.init)) (λ t. refl) (length own_snaps) 0 (snap_total (ground_task d p).actions) own_snaps ms (snaps-is d p) many_own
       (let e : length own_snaps ≡ snap_total (ground_task d p).actions = many_own in omega arith))))
-      (subst (λ ts. moments_ascend zeroℚ ts ≡ true) (sym (timed-is d p)) (rising-ascends (length own_snaps) 0 zeroℚ ms (moments-rise d p ok pass.bindings (ground_task d p) (over d p ok pass))))
+      (subst (λ ts. moments_ascend zeroℚ ts ≡ true) (sym (timed-is d p)) (rising-ascends (length own_snaps) 0 zeroℚ ms (moments-rise d p ok pass.bindings pass.valued (ground_task d p) (over d p ok pass))))
 
   terms-ok : (nat_le (length (ground_task d p).hard + length (ground_task d p).soft) 512 && list_all (trail_fits (ground_task d p)) (ground_task d p).hard && list_all (soft_fits (ground_task d p)) (ground_task d p).soft) ≡ true
   terms-ok = and_in _ _ (and_in _ _ (le_in (length (ground_task d p).hard + length (ground_task d p).soft) 512 pass.limited.terms)
-      (subst (λ ts. list_all (trail_fits (ground_task d p)) ts ≡ true) (sym (hard-is d p)) (all_in (trail_fits (ground_task d p)) (hard_terms (grounding d p) (constraints d p)) (hard-fit d p ok pass.bindings (ground_task d p) (over d p ok pass)))))
-      (subst (λ ts. list_all (soft_fits (ground_task d p)) ts ≡ true) (sym (soft-is d p)) (all_in (soft_fits (ground_task d p)) (soft_terms (grounding d p) p.goal (constraints d p) (costs p)) (soft-fit d p ok pass.bindings (ground_task d p) (over d p ok pass))))
+      (subst (λ ts. list_all (trail_fits (ground_task d p)) ts ≡ true) (sym (hard-is d p)) (all_in (trail_fits (ground_task d p)) (hard_terms (grounding d p) (constraints d p)) (hard-fit d p ok pass.bindings pass.valued (ground_task d p) (over d p ok pass)))))
+      (subst (λ ts. list_all (soft_fits (ground_task d p)) ts ≡ true) (sym (soft-is d p)) (all_in (soft_fits (ground_task d p)) (soft_terms (grounding d p) p.goal (constraints d p) (costs p)) (soft-fit d p ok pass.bindings pass.valued (ground_task d p) (over d p ok pass))))
 
   pub is_well_made : IsWellMade (ground_task d p)
   is_well_made = record {
@@ -137,9 +137,9 @@ module _ (d : Domain) (p : Problem) (ok : IsAccepted d p) (pass : IsPassed d p) 
     snaps = snaps-ok;
     numbered = numbered-ok;
     timed = timed-ok;
-    goal = subst (λ c. condition_fits (ground_task d p) c ≡ true) (sym (goal-is d p)) (goal-fits d p ok pass.bindings (ground_task d p) (over d p ok pass));
+    goal = subst (λ c. condition_fits (ground_task d p) c ≡ true) (sym (goal-is d p)) (goal-fits d p ok pass.bindings pass.valued (ground_task d p) (over d p ok pass));
     terms = terms-ok;
-    metric = subst (λ m. ((zeroℚ ≤? m.last) && form_fits (ground_task d p) m.fluents && (m.fluents.constant =? zeroℚ)) ≡ true) (sym (metric-is d p)) (metric-fits d p ok pass.bindings (ground_task d p) (over d p ok pass));
+    metric = subst (λ m. ((zeroℚ ≤? m.last) && form_fits (ground_task d p) m.fluents && (m.fluents.constant =? zeroℚ)) ≡ true) (sym (metric-is d p)) (metric-fits d p ok pass.bindings pass.valued (ground_task d p) (over d p ok pass));
   }
 
 answered : (o : Option GroundFault) (made task : TaskParts) → ◌≡◌ {A = Result TaskParts GroundFault} (either (Ok made) (λ f. Err f) o) (Ok task) → (o ≡ None) × (made ≡ task)

@@ -11,12 +11,13 @@ use Rattle.pddl_terms.specs.declared.files.Declared.{Declared}
 use Rattle.pddl_terms.specs.declared.files.Domain.{Domain}
 use Rattle.pddl_terms.specs.declared.files.Problem.{Problem}
 use Rattle.pddl_names.specs.Declarations.{among, sorts_of}
-use Rattle.ground_world.specs.World.{World, Env, GroundAtom, ground_atom, arguments}
+use Rattle.exact_lin.specs.Forms.{LinearForm}
+use Rattle.ground_world.specs.World.{World, Env, GroundAtom, either, ground_atom, arguments}
 use Rattle.ground_world.specs.Changes.{Change, Adds, Deletes, Moves, Flows, changes}
 use Rattle.ground_world.specs.FirstState.{signatures_of, all_atoms, given_value, world}
 use Rattle.ground_world.specs.Conditions.{body_bounds}
 use Rattle.ground_world.specs.Expressions.{own_unknown}
-use Rattle.ground_world.specs.Leaves.{costs, minimised}
+use Rattle.ground_world.specs.Leaves.{costs, unknowns, minimised_value}
 use Rattle.grounder.specs.Instances.{Instance, env_of, instances_of, conditions_of}
 use Rattle.grounder.specs.Terms.{part_atoms}
 use Rattle.grounder.specs.Task.{mentioned_atoms, timings, piece_of}
@@ -51,9 +52,15 @@ curve_fits (curve.Three s h t) = (zeroℚ ≤? s) && (s <? h) && (zeroℚ ≤? t
 curve_fits (curve.Pieces ps) = nat_lt 0 (length (flat_map piece_of ps)) && nat_le (length (flat_map piece_of ps)) piece_limit
     && pieces_rise zeroℚ zeroℚ (flat_map piece_of ps)
 
+-- ---- weights
+
+-- no preference, time cost or total time has a weight below 0 in the form
+abbrev pub weighs_right : World → LinearForm → Bool
+weighs_right w f = list_all (λ t. nat_lt t.0 (own_unknown w) || (zeroℚ ≤? t.1)) f.terms
+
 -- What readers promise of what they accept: names are names, each once; lists are no longer than texts can make them;
 -- atoms and fluents fit their declarations, in an action under each binding; moments are above 0; no preference, time
--- cost or total time has a weight below 0; time costs rise.
+-- cost or total time has a weight below 0 in a metric that has a value; time costs rise.
 pub record IsAccepted (d : Domain) (p : Problem) : Type 0 where
   pub objects : IsTrue (is_short (world d p).objects && are_names (world d p).objects)
   pub schemas : IsTrue (is_short d.actions && are_names (map (λ a. a.name.bytes) d.actions))
@@ -64,5 +71,5 @@ pub record IsAccepted (d : Domain) (p : Problem) : Type 0 where
   pub mentioned : IsTrue (list_all (λ a. are_below (length (world d p).objects) (arguments a)) (mentioned_atoms (world d p) d p))
   pub valued : IsTrue (list_all (λ e. is_binding (world d p) d.functions e.0) (flat_map (given_value (world d p)) p.init))
   pub timed : IsTrue (is_short (timings (world d p) p.init) && list_all (λ l. (zeroℚ <? l.moment) && is_binding (world d p) d.predicates l.atom) (timings (world d p) p.init))
-  pub weights : IsTrue (list_all (λ t. nat_lt t.0 (own_unknown (world d p)) || (zeroℚ ≤? t.1)) (minimised (world d p) d p).terms)
+  pub weights : IsTrue (either true (weighs_right (world d p)) (minimised_value (world d p) (unknowns d p) p.metric))
   pub late : IsTrue (list_all (λ c. curve_fits c.curve) (costs p))
