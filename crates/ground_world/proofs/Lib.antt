@@ -13,3 +13,6 @@ pub mod Heights
 pub mod Capped
 pub mod Exactness
 pub mod Ascending
+pub mod TimedParts
+pub mod UnvaluedPlaces
+pub mod WithStages

@@ -8,6 +8,8 @@ pub mod Leaves
 pub mod Counts
 pub mod Shown
 pub mod ShownChanges
+pub mod ShownBounds
+pub mod ShownParts
 pub mod Operations
 pub mod Readings
 pub mod Exact

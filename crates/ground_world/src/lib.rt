@@ -2,11 +2,14 @@
 //! first state, conditions with their quantifiers written out, and the reckoning of expressions.
 #![tactic(auto)]
 
+mod action_parts;
 mod binding;
 mod changes;
 mod choosing;
+mod comparing;
 mod conditions;
 mod counts;
+mod durations;
 mod expressions;
 pub mod laws;
 mod lookups;
@@ -16,15 +19,19 @@ mod operations;
 mod parts;
 mod places;
 mod readings;
+mod staged_parts;
 mod sums;
 mod tables;
 mod unvalued;
 
-pub use binding::{Bound, bound_object, ground_atom, ground_fluent};
+pub use action_parts::parts_of_action;
+pub use binding::{Bound, bound_object, ground_atom, ground_fluent, symbol};
 pub use changes::{Change, Stage, StagedChange, action_changes};
 pub use choosing::{Variable, bound, choices_within, variables};
+pub use comparing::{form_or_zero, negative, push_test_unvalued, test_difference, test_forms};
 pub use conditions::{MOST_PARTS, push_parts, static_holds};
 pub use counts::{COUNT_CAP, condition_count};
+pub use durations::{DurationBound, action_bounds};
 pub use expressions::{cost_unknown, fluent_form, own_unknown, preference_unknown, reckon};
 pub use metric::minimised;
 pub use numbering::Numbering;
@@ -32,9 +39,10 @@ pub use operations::Flaw;
 pub use parts::{CondPart, CondTest, Operand};
 pub use places::Places;
 pub use readings::{MetricNames, Reading};
+pub use staged_parts::StagedParts;
 pub use sums::added;
 pub use tables::Tables;
-pub use unvalued::push_unvalued;
+pub use unvalued::{push_fluent as push_unvalued_fluent, push_unvalued};
 
 #[cfg(test)]
 mod tests;
