@@ -18,3 +18,6 @@ pub mod Insides
 pub mod LeafLimits
 pub mod WithinLimits
 pub mod Somes
+pub mod TimedParts
+pub mod UnvaluedPlaces
+pub mod WithStages

@@ -11,6 +11,8 @@ pub mod Shown
 pub mod ShownChanges
 pub mod ShownLeaves
 pub mod Insides
+pub mod ShownBounds
+pub mod ShownParts
 pub mod Operations
 pub mod Readings
 pub mod Exact

@@ -2,12 +2,15 @@
 //! first state, conditions with their quantifiers written out, and the reckoning of expressions.
 #![tactic(auto)]
 
+mod action_parts;
 mod binding;
 mod bindings_limit;
 mod changes;
 mod choosing;
+mod comparing;
 mod conditions;
 mod counts;
+mod durations;
 mod expressions;
 mod formula_counts;
 mod goal_counts;
@@ -22,16 +25,20 @@ mod outer_bindings;
 mod parts;
 mod places;
 mod readings;
+mod staged_parts;
 mod sums;
 mod tables;
 mod unvalued;
 
-pub use binding::{Bound, bound_object, ground_atom, ground_fluent};
+pub use action_parts::parts_of_action;
+pub use binding::{Bound, bound_object, ground_atom, ground_fluent, symbol};
 pub use bindings_limit::bindings_fit;
 pub use changes::{Change, Stage, StagedChange, action_changes};
 pub use choosing::{Variable, bound, choices_within, nested_variables, variables};
+pub use comparing::{form_or_zero, negative, push_test_unvalued, test_difference, test_forms};
 pub use conditions::{MOST_PARTS, equal_part, push_parts, side_object, static_holds};
 pub use counts::{COUNT_CAP, body_count, condition_count, timed_count};
+pub use durations::{DurationBound, action_bounds};
 pub use expressions::{cost_unknown, fluent_form, own_unknown, preference_unknown, reckon};
 pub use formula_counts::{formula_count, trajectory_count};
 pub use goal_counts::{goal_count, soft_count};
@@ -43,9 +50,10 @@ pub use outer_bindings::MOST_BINDINGS;
 pub use parts::{CondPart, CondTest, Operand};
 pub use places::Places;
 pub use readings::{MetricNames, Reading};
+pub use staged_parts::StagedParts;
 pub use sums::added;
 pub use tables::Tables;
-pub use unvalued::push_unvalued;
+pub use unvalued::{push_fluent as push_unvalued_fluent, push_unvalued};
 
 #[cfg(test)]
 mod tests;

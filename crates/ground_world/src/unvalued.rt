@@ -14,8 +14,8 @@ use pddl_terms::{Atom, ExprTree};
 use sqlite_items::Items;
 use std::alloc::Global;
 
-// Puts the place of a fluent at the end where it has no first value.
-fn push_fluent(
+/// Puts the place of a fluent at the end where it has no first value.
+pub fn push_fluent(
     alloc: Global,
     tables: &Tables,
     env: &[Bound],

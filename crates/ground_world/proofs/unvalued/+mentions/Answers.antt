@@ -1,31 +1,21 @@
-use Rattle.std.proofs.Common.{◌≡◌, sym, ap, ap₂, subst, ◌∙◌, ℕ, OnOk, not, List, [], ◌++◌, map, take, append_assoc, arith}
-use Rattle.std.specs.List.{flat_map, filter}
-use Rattle.std.proofs.lemmas.List.{append-nil, map-append}
-use Rattle.std.proofs.lemmas.List.Elements.{filter-append}
+use Rattle.std.proofs.Common.{◌≡◌, sym, ap, ap₂, subst, ◌∙◌, ℕ, OnOk, List, [], ◌++◌, map, take, append_assoc, arith}
+use Rattle.std.specs.List.{flat_map}
+use Rattle.std.proofs.lemmas.List.{append-nil}
 use Rattle.std.proofs.lemmas.List.Folds.{flat_map-map}
 use Rattle.pddl_terms.specs.declared.trees.ExprTree.{ExprTree}
 use Rattle.ground_world.specs.World.{World, Env, GroundAtom}
-use Rattle.ground_world.specs.FirstState.{has_value, unvalued_places}
+use Rattle.ground_world.specs.FirstState.{unvalued_places}
 use Rattle.ground_world.specs.Expressions.{mentioned}
 use Rattle.ground_world.specs.Shown.{env_of, world_of}
 use Rattle.ground_world.proofs.Walks as walk
 use Rattle.ground_world.proofs.Heights.{greatest, height, below_greatest, height-Sum, height-Product, height-Negative, height-Difference, height-Quotient}
 use Rattle.ground_world.proofs.Steps.{parts_more}
+use Rattle.ground_world.proofs.UnvaluedPlaces.{unvalued-append, unvalued-joined}
 use Rattle.ground_world.proofs.unvalued.+mentions.Goals as goal
-
-unvalued-append : (w : World) (xs ys : List (ℕ × GroundAtom)) → unvalued_places w (xs ++ ys) ≡ unvalued_places w xs ++ unvalued_places w ys
-unvalued-append w xs ys =
-    ap (map (λ f. f.0)) (filter-append (λ f. not (has_value w f.1)) xs ys)
-    ∙ map-append (λ f. f.0) (filter (λ f. not (has_value w f.1)) xs) (filter (λ f. not (has_value w f.1)) ys)
 
 -- an expression of a form that mentions nothing adds nothing
 nothing : (w : World) (env : Env) (old : List ℕ) (t u : ExprTree) → t ≡ u → mentioned w env u ≡ [] → old ≡ old ++ unvalued_places w (mentioned w env t)
 nothing w env old t u e none = sym (append-nil old) ∙ ap (λ l. old ++ unvalued_places w l) (sym (ap (mentioned w env) e ∙ none))
-
--- two lists, one after the other
-joined : (w : World) (old : List ℕ) (xs ys : List (ℕ × GroundAtom))
-    → (old ++ unvalued_places w xs) ++ unvalued_places w ys ≡ old ++ unvalued_places w (xs ++ ys)
-joined w old xs ys = append_assoc old _ _ ∙ ap (λ l. old ++ l) (sym (unvalued-append w xs ys))
 
 pub push_unvalued-returns-in-Number : goal.push_unvalued-returns-in-Number
 push_unvalued-returns-in-Number t c =
@@ -79,7 +69,7 @@ push_unvalued-returns-in-Difference t c =
     let m = mentioned (world_of c.args.tables.now) (env_of c.args.env.now) in
     subst (λ (l : List ℕ). OnOk c.push_both_unvalued.result (c.push_both_unvalued.new.out ≡ l))
     (ap₂ (λ (x y : ExprTree). (c.args.out.now ++ unvalued_places (world_of c.args.tables.now) (m x)) ++ unvalued_places (world_of c.args.tables.now) (m y)) c.get-in-Difference.ensures c.get-in-Difference-2.ensures
-    ∙ joined (world_of c.args.tables.now) c.args.out.now (m c.in-Difference.left) (m c.in-Difference.right)
+    ∙ unvalued-joined (world_of c.args.tables.now) c.args.out.now (m c.in-Difference.left) (m c.in-Difference.right)
     ∙ ap (λ l. c.args.out.now ++ unvalued_places (world_of c.args.tables.now) l) (sym (ap m c.in-Difference.is ∙ walk.mentioned-Difference (world_of c.args.tables.now) (env_of c.args.env.now) c.in-Difference.field-0 c.in-Difference.left c.in-Difference.right)))
     c.push_both_unvalued.ensures
 
@@ -88,7 +78,7 @@ push_unvalued-returns-in-Quotient t c =
     let m = mentioned (world_of c.args.tables.now) (env_of c.args.env.now) in
     subst (λ (l : List ℕ). OnOk c.push_both_unvalued-in-Quotient.result (c.push_both_unvalued-in-Quotient.new.out ≡ l))
     (ap₂ (λ (x y : ExprTree). (c.args.out.now ++ unvalued_places (world_of c.args.tables.now) (m x)) ++ unvalued_places (world_of c.args.tables.now) (m y)) c.get-in-Quotient.ensures c.get-in-Quotient-2.ensures
-    ∙ joined (world_of c.args.tables.now) c.args.out.now (m c.in-Quotient.left) (m c.in-Quotient.right)
+    ∙ unvalued-joined (world_of c.args.tables.now) c.args.out.now (m c.in-Quotient.left) (m c.in-Quotient.right)
     ∙ ap (λ l. c.args.out.now ++ unvalued_places (world_of c.args.tables.now) l) (sym (ap m c.in-Quotient.is ∙ walk.mentioned-Quotient (world_of c.args.tables.now) (env_of c.args.env.now) c.in-Quotient.field-0 c.in-Quotient.left c.in-Quotient.right)))
     c.push_both_unvalued-in-Quotient.ensures
 
