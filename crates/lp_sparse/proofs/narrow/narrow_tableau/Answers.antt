@@ -16,8 +16,7 @@ returns-in-Some-2 c =
     let rows_fit : RowTermsFit narrow_limit (terms_of_rows (λ q. q) t.rows.items) = subst (λ xs. RowTermsFit narrow_limit (terms_of_rows (λ q. q) xs)) c.deref.ensures.value rows.0 in
     let cost_fits : TermsFit narrow_limit (terms_of (λ q. q) t.cost.items) = subst (λ xs. TermsFit narrow_limit (terms_of (λ q. q) xs)) c.deref-in-Some.ensures.value cost.0 in
     let rows_are : terms_of_rows (λ q. q) u.rows.items ≡ terms_of_rows (λ q. q) t.rows.items = rows.1 ∙ ap (λ xs. terms_of_rows (λ q. q) xs) c.deref.ensures.value in
-    let cost_is : u.cost.items ≡ t.cost.items = cost.1 ∙ c.deref-in-Some.ensures.value in
-    (
+    let cost_is : u.cost.items ≡ t.cost.items = cost.1 ∙ c.deref-in-Some.ensures.value in (
       narrow-numbers t c.requires rows_fit cost_fits,
       narrowed-rows t c.requires u refl refl refl rows_are cost_is rows_fit cost_fits,
       narrowed-dictionary t c.requires u refl refl refl rows_are cost_is rows_fit cost_fits,
