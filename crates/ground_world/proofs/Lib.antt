@@ -13,3 +13,8 @@ pub mod Heights
 pub mod Capped
 pub mod Exactness
 pub mod Ascending
+pub mod FirstDeclared
+pub mod FittingPlaces
+pub mod Marking
+pub mod FluentOrder
+pub mod WorldParts

@@ -8,6 +8,7 @@ pub mod Leaves
 pub mod Counts
 pub mod Shown
 pub mod ShownChanges
+pub mod Building
 pub mod Operations
 pub mod Readings
 pub mod Exact

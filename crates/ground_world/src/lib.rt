@@ -3,11 +3,18 @@
 #![tactic(auto)]
 
 mod binding;
+mod building;
 mod changes;
+mod changing;
 mod choosing;
+mod columns;
 mod conditions;
 mod counts;
+mod declarations;
 mod expressions;
+mod first_state;
+mod firsts;
+mod fluents;
 pub mod laws;
 mod lookups;
 mod metric;
@@ -21,6 +28,7 @@ mod tables;
 mod unvalued;
 
 pub use binding::{Bound, bound_object, ground_atom, ground_fluent};
+pub use building::world_tables;
 pub use changes::{Change, Stage, StagedChange, action_changes};
 pub use choosing::{Variable, bound, choices_within, variables};
 pub use conditions::{MOST_PARTS, push_parts, static_holds};
