@@ -18,3 +18,8 @@ pub mod FittingPlaces
 pub mod Marking
 pub mod FluentOrder
 pub mod WorldParts
+pub mod NestedChoices
+pub mod Insides
+pub mod LeafLimits
+pub mod WithinLimits
+pub mod Somes
