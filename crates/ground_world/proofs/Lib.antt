@@ -23,3 +23,4 @@ pub mod Insides
 pub mod LeafLimits
 pub mod WithinLimits
 pub mod Somes
+pub mod NewNames
