@@ -13,6 +13,11 @@ pub mod Heights
 pub mod Capped
 pub mod Exactness
 pub mod Ascending
+pub mod FirstDeclared
+pub mod FittingPlaces
+pub mod Marking
+pub mod FluentOrder
+pub mod WorldParts
 pub mod NestedChoices
 pub mod Insides
 pub mod LeafLimits
@@ -21,3 +26,4 @@ pub mod Somes
 pub mod TimedParts
 pub mod UnvaluedPlaces
 pub mod WithStages
+pub mod NewNames

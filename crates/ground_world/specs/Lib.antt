@@ -9,6 +9,7 @@ pub mod Counts
 pub mod Counting
 pub mod Shown
 pub mod ShownChanges
+pub mod Building
 pub mod ShownLeaves
 pub mod Insides
 pub mod ShownBounds

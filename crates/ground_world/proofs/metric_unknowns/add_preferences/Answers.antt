@@ -1,0 +1,7 @@
+use Rattle.ground_world.proofs.NewNames.{names-next}
+use Rattle.ground_world.proofs.metric_unknowns.add_preferences.Goals as goal
+
+pub loop-leaf-preserved : goal.loop-leaf-preserved
+loop-leaf-preserved c =
+    names-next (λ l. l.name.now) c.args.names.now _ _ c.args.leaves.now c.loop-leaf.leaf-index c.leaf-item.result
+    c.loop-leaf-test.true c.leaf-item.is c.loop-leaf.invariant c.in_ok-add.ensures
