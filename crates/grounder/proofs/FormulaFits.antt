@@ -69,7 +69,7 @@ module _ (task : TaskParts) where
 
 -- ---- a formula counts one at least
 
-or_one-positive : (n : ℕ) → 0 < or_one n
+pub or_one-positive : (n : ℕ) → 0 < or_one n
 or_one-positive n = grind (arith, nat_tests)
 
 module _ (w : World) where
