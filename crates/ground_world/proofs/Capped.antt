@@ -1,5 +1,5 @@
 -- Counts that stop at a cap.
-use Rattle.std.proofs.Common.{◌≡◌, refl, sym, ap, ap₂, ◌∙◌, ℕ, ◌+◌, ◌*◌, ◌<◌, min, max, arith, List, [], ◌∷◌, ◌++◌, map, length, take, get_or}
+use Rattle.std.proofs.Common.{◌≡◌, refl, sym, ap, ap₂, ◌∙◌, ℕ, ◌+◌, ◌*◌, ◌<◌, min, max, arith, List, [], ◌∷◌, ◌++◌, map, length, take, get_or, Bool, true, false, if◌then◌else◌}
 use Rattle.std.proofs.Math.Nat.{mul_comm}
 use Rattle.std.proofs.lemmas.List.{map-append}
 use Rattle.std.proofs.lemmas.Bool.Decides.{nat_tests}
@@ -13,7 +13,8 @@ plus-capped s c a b h k = omega arith
 or_one-max : (n : ℕ) → or_one n ≡ max n 1
 or_one-max n = grind (arith, nat_tests)
 
-times-capped : (m a b : ℕ) → min m (min m a * min m b) ≡ min m (a * b)
+-- a product of two counts that stop at the cap
+pub times-capped : (m a b : ℕ) → min m (min m a * min m b) ≡ min m (a * b)
 times-capped m a b =
     cut m a (min m b) ∙ ap (min m) (mul_comm a (min m b)) ∙ cut m b a ∙ ap (min m) (mul_comm b a)
 
@@ -48,3 +49,17 @@ some-together f (x ∷ xs) h = refl
 pub none-together : {X : Type 0} (f : X → ℕ) (xs : List X) → length xs ≡ 0 → sum_or_one (map f xs) ≡ 1
 none-together f [] h = refl
 none-together f (x ∷ xs) h = absurd (omega arith)
+
+-- how many bindings there are inside others
+pub inner-capped : (outer ways n c : ℕ) → outer ≡ min 1048577 n → ways ≡ min 1048577 c
+    → min (min (outer * ways) 18446744073709551615) 1048577 ≡ min 1048577 (n * c)
+inner-capped outer ways n c h k =
+    let same : outer * ways ≡ min 1048577 n * min 1048577 c = ap₂ (λ x y. x * y) h k in
+    by (outer * ways) (min 1048577 n * min 1048577 c) (n * c) same (times-capped 1048577 n c)
+  where
+    by : (x y z : ℕ) → x ≡ y → min 1048577 y ≡ min 1048577 z → min (min x 18446744073709551615) 1048577 ≡ min 1048577 z
+    by x y z h e = omega arith
+
+pub small_if : (b : Bool) → (if b then 1 else 2) ≡ min 65537 (if b then 1 else 2)
+small_if true = refl
+small_if false = refl

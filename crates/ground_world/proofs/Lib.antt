@@ -13,3 +13,8 @@ pub mod Heights
 pub mod Capped
 pub mod Exactness
 pub mod Ascending
+pub mod NestedChoices
+pub mod Insides
+pub mod LeafLimits
+pub mod WithinLimits
+pub mod Somes

@@ -34,6 +34,13 @@ paired (v ∷ vs) (o ∷ os) = (v, o) ∷ paired vs os
 abbrev pub bindings : World → Env → List Group → List Env
 bindings w env vars = map (λ os. env ++ paired (variable_names vars) os) (choices (columns w vars))
 
+-- the variables of several lists together, outer first, and their columns
+abbrev pub all_names : List (List Group) → List Text
+all_names around = flat_map variable_names around
+
+abbrev pub all_columns : World → List (List Group) → List (List ℕ)
+all_columns w around = flat_map (columns w) around
+
 -- the bindings of several lists of variables, one inside the other
 abbrev pub nested_bindings : World → Env → List (List Group) → List Env
 nested_bindings w env [] = env ∷ []

@@ -6,8 +6,11 @@ pub mod Expressions
 pub mod Conditions
 pub mod Leaves
 pub mod Counts
+pub mod Counting
 pub mod Shown
 pub mod ShownChanges
+pub mod ShownLeaves
+pub mod Insides
 pub mod Operations
 pub mod Readings
 pub mod Exact

@@ -3,8 +3,9 @@
 ghost use Rattle.std.specs.Prelude.{◌≡◌, ◌<◌, ◌++◌, map, min, IfOk, OnOk};
 ghost use Rattle.pddl_names.specs.Declarations.{type_bytes};
 ghost use Rattle.ground_world.specs.World.{columns, variable_names};
-ghost use Rattle.ground_world.specs.Bindings.{choice_count, choice_at, paired};
+ghost use Rattle.ground_world.specs.Bindings.{choice_count, choice_at, paired, all_names, all_columns};
 ghost use Rattle.ground_world.specs.Shown.{env_of, names_of, columns_of, world_of};
+ghost use Rattle.ground_world.specs.ShownLeaves.{lists_of};
 
 use crate::binding::Bound;
 use crate::tables::Tables;
@@ -56,6 +57,22 @@ fn push_group<'a>(
     Ok(())
 }
 
+// Puts the variables of a typed list at the end.
+fn push_variables<'a>(
+    out: &mut Items<Variable<'a>>,
+    tables: &'a Tables,
+    groups: &'a [Group],
+) -> Result<(), NoMemory>
+    ensures names { OnOk result (names_of out.new ≡ names_of out.old ++ variable_names groups.now) }
+    ensures columns { OnOk result (columns_of out.new ≡ columns_of out.old ++ columns (world_of tables.now) groups.now) }
+{
+    for group in groups {
+        let column = group_column(tables, group);
+        push_group(out, column, group.names.as_slice())?;
+    }
+    Ok(())
+}
+
 /// The variables of a typed list.
 pub fn variables<'a>(
     alloc: Global,
@@ -66,9 +83,22 @@ pub fn variables<'a>(
     ensures columns { IfOk result (λ vs. columns_of vs ≡ columns (world_of tables.now) groups.now) }
 {
     let mut out = Items::new(alloc);
-    for group in groups {
-        let column = group_column(tables, group);
-        push_group(&mut out, column, group.names.as_slice())?;
+    push_variables(&mut out, tables, groups)?;
+    Ok(out)
+}
+
+/// The variables of several typed lists, one inside the other, outer first.
+pub fn nested_variables<'a>(
+    alloc: Global,
+    tables: &'a Tables,
+    around: &[&'a [Group]],
+) -> Result<Items<Variable<'a>>, NoMemory>
+    ensures names { IfOk result (λ vs. names_of vs ≡ all_names (lists_of around.now)) }
+    ensures columns { IfOk result (λ vs. columns_of vs ≡ all_columns (world_of tables.now) (lists_of around.now)) }
+{
+    let mut out = Items::new(alloc);
+    for groups in around {
+        push_variables(&mut out, tables, groups)?;
     }
     Ok(out)
 }

@@ -19,8 +19,8 @@ use std::alloc::Global;
 /// The most literals and comparisons of a condition.
 pub const MOST_PARTS: usize = 65_536;
 
-// The object that a side stands for.
-fn side_object(tables: &Tables, env: &[Bound], side: &Side) -> u32
+/// The object that a side of an equality of terms stands for.
+pub fn side_object(tables: &Tables, env: &[Bound], side: &Side) -> u32
     ensures { result ≡ side_object (world_of tables.now) (env_of env.now) side.now }
 {
     match side {
@@ -51,8 +51,8 @@ fn compare_part<'a>(
     }))
 }
 
-// The part that an `=` with its sides is.
-fn equal_part<'a>(
+/// The part that an `=` with its sides is.
+pub fn equal_part<'a>(
     alloc: Global,
     tables: &Tables,
     env: &[Bound<'a>],

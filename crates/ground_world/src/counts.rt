@@ -1,4 +1,4 @@
-//! How many literals and comparisons a condition has, quantifiers written out. Counts stop at a cap.
+//! How many literals and comparisons conditions have, quantifiers written out. Counts stop at a cap.
 
 ghost use Rattle.std.specs.Prelude.{◌≡◌, ℕ, ◌≤◌, map, min, IfOk};
 ghost use Rattle.ground_world.specs.Counts as counts;
@@ -8,7 +8,7 @@ use crate::choosing::{choices_within, variables};
 use crate::tables::Tables;
 use exact_lin::NoMemory;
 use pddl_names::is_equality;
-use pddl_terms::{Comparison, CondTree, Group, Side, TimedCond};
+use pddl_terms::{ActionBody, Comparison, CondTree, Group, Side, TimedCond};
 use sqlite_items::Items;
 use std::alloc::Global;
 
@@ -28,8 +28,8 @@ fn compare_count(order: Comparison) -> usize
     }
 }
 
-// How many parts an `=` has.
-fn equal_count(tables: &Tables, left: &Side, right: &Side) -> usize
+/// How many parts an `=` has.
+pub(crate) fn equal_count(tables: &Tables, left: &Side, right: &Side) -> usize
     ensures { result ≡ counts.equal_count (world_of tables.now) left.now right.now }
 {
     if is_equality(&tables.functions, left, right) {
@@ -39,14 +39,14 @@ fn equal_count(tables: &Tables, left: &Side, right: &Side) -> usize
     }
 }
 
-// How often the parts below a quantifier are written out, where there are `parts` of them, or more than the cap.
-fn written_out(
+/// How many parts there are below a quantifier that is written out, or the cap where there are more; its body has
+/// `parts` of them, or more than the cap.
+pub(crate) fn written_out(
     alloc: Global,
     tables: &Tables,
     groups: &[Group],
     parts: usize,
 ) -> Result<usize, NoMemory>
-    requires { parts ≤ 65537 }
     ensures { IfOk result (λ count. (n : ℕ) → parts ≡ min 65537 n
         → count ≡ min 65537 (counts.written_out (world_of tables.now) groups.now n)) }
 {
@@ -99,4 +99,50 @@ fn conditions_count(
         sum = (sum + count).min(COUNT_CAP);
     }
     Ok(sum)
+}
+
+/// How many literals and comparisons the condition of a durative action has, all stages together, or the cap where there
+/// are more.
+#[cycle(timed_counting)]
+pub fn timed_count(alloc: Global, tables: &Tables, condition: &TimedCond) -> Result<usize, NoMemory>
+    ensures { IfOk result (λ count. count ≡ min 65537 (counts.timed_count (world_of tables.now) condition.now)) }
+{
+    match condition {
+        TimedCond::Empty(_) => Ok(1),
+        TimedCond::And(_, parts) => timed_counts(alloc, tables, parts.as_slice()),
+        TimedCond::AtStart(_, part) => condition_count(alloc, tables, part),
+        TimedCond::OverAll(_, part) => condition_count(alloc, tables, part),
+        TimedCond::AtEnd(_, part) => condition_count(alloc, tables, part),
+        TimedCond::LeftOut(_) => Ok(1),
+    }
+}
+
+// How many parts some conditions of a durative action have together; none count as one.
+#[cycle(timed_counting)]
+fn timed_counts(alloc: Global, tables: &Tables, conditions: &[TimedCond]) -> Result<usize, NoMemory>
+    ensures { IfOk result (λ count. count ≡ min 65537
+        (counts.sum_or_one (map (counts.timed_count (world_of tables.now)) conditions.now))) }
+{
+    if conditions.len() == 0 {
+        return Ok(1);
+    }
+    let mut sum = 0;
+    for condition in conditions {
+        let count = timed_count(alloc, tables, condition)?;
+        sum = (sum + count).min(COUNT_CAP);
+    }
+    Ok(sum)
+}
+
+/// How many literals and comparisons the condition of an action has, or the cap where there are more; none where it has
+/// no condition.
+pub fn body_count(alloc: Global, tables: &Tables, body: &ActionBody) -> Result<usize, NoMemory>
+    ensures { IfOk result (λ count. count ≡ min 65537 (counts.body_count (world_of tables.now) body.now)) }
+{
+    match body {
+        ActionBody::Instant(Some(condition), _) => condition_count(alloc, tables, condition),
+        ActionBody::Instant(None, _) => Ok(0),
+        ActionBody::Durative(_, Some(condition), _) => timed_count(alloc, tables, condition),
+        ActionBody::Durative(_, None, _) => Ok(0),
+    }
 }

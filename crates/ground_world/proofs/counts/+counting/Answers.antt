@@ -1,4 +1,4 @@
-use Rattle.std.proofs.Common.{◌≡◌, refl, sym, ap, subst, ◌∙◌, ℕ, min, arith, List, map, IfOk, Bool, true, false, if◌then◌else◌}
+use Rattle.std.proofs.Common.{◌≡◌, refl, sym, ap, subst, ◌∙◌, ℕ, min, arith, List, map, IfOk}
 use Rattle.std.proofs.lemmas.Result.{IfOk-weaker}
 use Rattle.pddl_terms.specs.declared.trees.Group.{Group}
 use Rattle.pddl_terms.specs.declared.trees.CondTree.{CondTree}
@@ -8,7 +8,7 @@ use Rattle.pddl_names.specs.Equalities.{is_equality}
 use Rattle.ground_world.specs.Counts.{compare_count, condition_count, sum_or_one, written_out}
 use Rattle.ground_world.specs.Shown.{world_of}
 use Rattle.ground_world.proofs.Walks as walk
-use Rattle.ground_world.proofs.Capped.{sum-more}
+use Rattle.ground_world.proofs.Capped.{sum-more, small_if}
 use Rattle.ground_world.proofs.counts.+counting.Goals as goal
 
 pub condition_count-returns-in-Empty : goal.condition_count-returns-in-Empty
@@ -25,10 +25,6 @@ pub condition_count-returns-in-LeftOut : goal.condition_count-returns-in-LeftOut
 condition_count-returns-in-LeftOut t c =
     let w = world_of c.args.tables.now in
     let e : condition_count w c.args.condition.now ≡ 1 = ap (condition_count w) c.in-LeftOut.is ∙ walk.condition_count-LeftOut w c.in-LeftOut.field-0 in omega arith
-
-small_if : (b : Bool) → (if b then 1 else 2) ≡ min 65537 (if b then 1 else 2)
-small_if true = refl
-small_if false = refl
 
 small_order : (o : Comparison) → compare_count o ≡ min 65537 (compare_count o)
 small_order Equal = refl

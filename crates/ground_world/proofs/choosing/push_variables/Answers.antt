@@ -5,7 +5,7 @@ use Rattle.ground_world.specs.World.{variable_names, columns}
 use Rattle.ground_world.specs.Shown.{names_of, columns_of, world_of}
 use Rattle.ground_world.proofs.Groups.{variable_names-cons, columns-cons}
 use Rattle.ground_world.proofs.Steps.{dropped}
-use Rattle.ground_world.proofs.choosing.variables.Goals as goal
+use Rattle.ground_world.proofs.choosing.push_variables.Goals as goal
 
 pub loop-group-preserved : goal.loop-group-preserved
 loop-group-preserved c =
