@@ -1,5 +1,6 @@
 pub mod Walks
 pub mod Each
+pub mod OneByOne
 pub mod Choosing
 pub mod Placing
 pub mod Columns
@@ -10,7 +11,16 @@ pub mod Kept
 pub mod FormFacts
 pub mod FormulaFits
 pub mod GoalFits
+pub mod TreeHeights
+pub mod Within
+pub mod FormulaSteps
+pub mod Reaching
+pub mod GoalSteps
 pub mod GoalSizes
+pub mod PreferenceSteps
+pub mod Asking
+pub mod ConstraintSteps
+pub mod TrailSteps
 pub mod Passed
 pub mod WorldFacts
 pub mod Conditions
@@ -20,6 +30,8 @@ pub mod ActionFields
 pub mod TermFields
 pub mod WellMade
 pub mod Counting
+pub mod TimingSteps
+pub mod MomentSteps
 pub mod Leasts
 pub mod ExampleBindings
 pub mod ExampleFacts

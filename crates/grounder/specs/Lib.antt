@@ -4,6 +4,12 @@ pub mod Task
 pub mod Answer
 pub mod Accepted
 pub mod Laws
+pub mod ShownGrounding
+pub mod Asked
+pub mod Reach
+pub mod ShownPreferences
+pub mod ShownQuantified
+pub mod ShownTimings
 pub mod ExampleWords
 pub mod ExampleBindings
 pub mod ExampleFacts
