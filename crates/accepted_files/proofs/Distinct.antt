@@ -1,8 +1,8 @@
 -- Names of which the first of each is kept are distinct.
-use Rattle.std.proofs.Common.{◌≡◌, refl, ap, ◌∙◌, ◌+◌, ◌≤◌, Bool, true, false, not, ◌||◌, List, [], ◌∷◌, ◌++◌, map, length, is_some, if◌then◌else◌, arith}
+use Rattle.std.proofs.Common.{◌≡◌, refl, ap, ◌∙◌, ◌+◌, ◌≤◌, Bool, true, false, not, ◌||◌, List, [], ◌∷◌, ◌++◌, map, is_some, if◌then◌else◌}
 use Rattle.std.specs.List.{list_all}
 use Rattle.std.specs.Str.{bytes_eq}
-use Rattle.std.proofs.lemmas.List.{length-append, map-append}
+use Rattle.std.proofs.lemmas.List.{map-append}
 use Rattle.std.proofs.lemmas.List.Folds.{list_any-append}
 use Rattle.basics.proofs.Bools.{not_true, and_left, and_right, and_in, or_false, or_false_left, or_false_right}
 use Rattle.basics.proofs.Lists.{all_append}
@@ -38,15 +38,6 @@ all-new p seen (n ∷ ns) a h = all-new p (if among seen n then seen else seen +
     by : (b : Bool) → list_all p (if b then seen else seen ++ n ∷ []) ≡ true
     by true = a
     by false = all_append p seen (n ∷ []) a (and_in (p n) true (and_left (p n) (list_all p ns) h) refl)
-
-pub new-shorter : (seen ns : List Text) → length (with_new seen ns) ≤ length seen + length ns
-new-shorter seen [] = omega arith
-new-shorter seen (n ∷ ns) = by (among seen n) (new-shorter (if among seen n then seen else seen ++ n ∷ []) ns)
-  where
-    by : (b : Bool) → length (with_new (if b then seen else seen ++ n ∷ []) ns) ≤ length (if b then seen else seen ++ n ∷ []) + length ns
-        → length (with_new (if b then seen else seen ++ n ∷ []) ns) ≤ length seen + length (n ∷ ns)
-    by true r = omega (arith, r)
-    by false r = let l = length-append seen (n ∷ []) in omega (arith, r, l)
 
 module _ {V : Type 0} where
   abbrev keys : List (Text × V) → List Text

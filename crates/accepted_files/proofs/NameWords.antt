@@ -22,17 +22,17 @@ record IsNameWord (run : List ℕ) : Type 0 where
   name : is_name run ≡ true
   short : length run ≤ name_limit
 
-abbrev Reads : Result TokenKind RunFault → Type 0
-Reads result = result ≡ Ok Name
+abbrev ReadsName : Result TokenKind RunFault → Type 0
+ReadsName result = result ≡ Ok Name
 
-chosen : {P : Type 0} (b : Bool) (x y : Result TokenKind RunFault) → (b ≡ true → Reads x → P) → (Reads y → P) → Reads (cond b x y) → P
+chosen : {P : Type 0} (b : Bool) (x y : Result TokenKind RunFault) → (b ≡ true → ReadsName x → P) → (ReadsName y → P) → ReadsName (cond b x y) → P
 chosen true x y f g e = f refl e
 chosen false x y f g e = g e
 
-refused : {P : Type 0} (wrong : RunFault) → Reads (Err wrong) → P
+refused : {P : Type 0} (wrong : RunFault) → ReadsName (Err wrong) → P
 refused wrong e = absurd cc
 
-other : {P : Type 0} (b : Bool) (kind : TokenKind) (wrong : RunFault) → (Reads (Ok kind) → P) → Reads (cond b (Ok kind) (Err wrong)) → P
+other : {P : Type 0} (b : Bool) (kind : TokenKind) (wrong : RunFault) → (ReadsName (Ok kind) → P) → ReadsName (cond b (Ok kind) (Err wrong)) → P
 other b kind wrong f = chosen b (Ok kind) (Err wrong) (λ _. f) (refused wrong)
 
 name-word : (run : List ℕ) → reading run ≡ Ok Name → IsNameWord run

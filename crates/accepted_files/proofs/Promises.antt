@@ -41,11 +41,12 @@ use Rattle.accepted_files.specs.Clean.{IsClean}
 use Rattle.accepted_files.specs.Laws.{AtomsAreBindings, HaveTaskNames, IsSymbolWithin, IsActionWithin, PartsAreNoLonger, text_limit, WeightsAreNotNegative, AcceptedTimeCostsFit, ReadersPromise}
 use Rattle.accepted_files.proofs.Cleaning.{files_clean}
 use Rattle.accepted_files.proofs.Costs.{costs-fit}
-use Rattle.accepted_files.proofs.Distinct.{apart-new, all-new, new-shorter, keys-firsts, names-are}
+use Rattle.accepted_files.proofs.Distinct.{apart-new, all-new, keys-firsts, names-are}
 use Rattle.accepted_files.proofs.FileNames.{file_names, types_named}
 use Rattle.accepted_files.proofs.Files.{cost_forms, clean_atoms-bound}
 use Rattle.accepted_files.proofs.PartSizes.{one-atom, sorts-many, parts_no_longer}
 use Rattle.accepted_files.proofs.Variables.{names-typed, are_apart}
+use Rattle.ground_world.proofs.NewNames.{with_new-length}
 
 short : {A : Type 0} (xs : List A) (n : ℕ) → length xs ≤ n → n ≤ text_limit → is_short xs ≡ true
 short xs n h k = le_in (length xs) list_limit (omega (arith, h, k))
@@ -69,7 +70,7 @@ objects-named d p h = ap are_names (objects-are d p)
 objects-short : (d : Domain) (p : Problem) → length (names_in d.constants) + length (names_in p.objects) ≤ objects_limit → is_short (world d p).objects ≡ true
 objects-short d p few = short (world d p).objects objects_limit
     (let same : length (world d p).objects ≡ length (with_new [] (texts_of (names_of d.constants) ++ texts_of (names_of p.objects))) = ap length (objects-are d p) in
-    let new = new-shorter [] (texts_of (names_of d.constants) ++ texts_of (names_of p.objects)) in
+    let new = with_new-length [] (texts_of (names_of d.constants) ++ texts_of (names_of p.objects)) in
     let both = length-append (texts_of (names_of d.constants)) (texts_of (names_of p.objects)) in
     let constants = length-map (names_of d.constants) (λ n. n.bytes) in
     let objects = length-map (names_of p.objects) (λ n. n.bytes) in

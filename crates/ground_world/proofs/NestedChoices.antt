@@ -10,6 +10,7 @@ use Rattle.ground_world.specs.World.{World, Env, columns, variable_names}
 use Rattle.ground_world.specs.Bindings.{choices, choice_count, paired, bindings, nested_bindings, all_names, all_columns}
 use Rattle.ground_world.specs.Counts.{around_count}
 use Rattle.ground_world.specs.Laws.{NestedAsOne}
+use Rattle.basics.proofs.Lists.{each_append}
 
 -- ---- ways to choose from two lists of columns
 
@@ -44,10 +45,6 @@ choices-append (c ∷ cs) ds = by (choices-append cs ds) c
 abbrev HasLength : ℕ → List ℕ → Type 0
 HasLength n os = length os ≡ n
 
-all-append : {X : Type 0} (P : X → Type 0) (xs ys : List X) → AllByRecursion P xs → AllByRecursion P ys → AllByRecursion P (xs ++ ys)
-all-append P [] ys h k = k
-all-append P (x ∷ xs) ys h k = (h.0, all-append P xs ys h.1 k)
-
 choices-length : (cs : List (List ℕ)) → AllByRecursion (HasLength (length cs)) (choices cs)
 choices-length [] = (refl, tt)
 choices-length (c ∷ cs) = by (choices-length cs) c
@@ -58,7 +55,7 @@ choices-length (c ∷ cs) = by (choices-length cs) c
 
     by : AllByRecursion (HasLength (length cs)) (choices cs) → (os : List ℕ) → AllByRecursion (HasLength (suc (length cs))) (flat_map (λ o. map (λ rest. o ∷ rest) (choices cs)) os)
     by h [] = tt
-    by h (o ∷ os) = all-append (HasLength (suc (length cs))) (map (λ rest. o ∷ rest) (choices cs)) (flat_map (λ o. map (λ rest. o ∷ rest) (choices cs)) os) (longer o (choices cs) h) (by h os)
+    by h (o ∷ os) = each_append (HasLength (suc (length cs))) (map (λ rest. o ∷ rest) (choices cs)) (flat_map (λ o. map (λ rest. o ∷ rest) (choices cs)) os) (longer o (choices cs) h) (by h os)
 
 paired-append : (ns ms : List Text) (a b : List ℕ) → length a ≡ length ns → paired (ns ++ ms) (a ++ b) ≡ paired ns a ++ paired ms b
 paired-append [] ms [] b h = refl

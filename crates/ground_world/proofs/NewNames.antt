@@ -20,12 +20,15 @@ names-next f names now next xs i x lt at h e =
     e ∙ ap (λ (l : List Text). with_new l (f x ∷ [])) h ∙ sym (with_new-append names (map f (take i xs)) (f x ∷ []))
     ∙ ap (with_new names) (sym (ap (map f) (taken xs i x lt at) ∙ map-append f (take i xs) (x ∷ [])))
 
--- the names of one part more
-pub names-parts : {X : Type 0} (f : X → List Text) (names now next : List Text) (xs : List X) (i : ℕ) (x : X) → i < length xs → x ≡ get_or xs i x
-    → now ≡ with_new names (flat_map f (take i xs)) → next ≡ with_new now (f x) → next ≡ with_new names (flat_map f (take (i + 1) xs))
-names-parts f names now next xs i x lt at h e =
-    e ∙ ap (λ (l : List Text). with_new l (f x)) h ∙ sym (with_new-append names (flat_map f (take i xs)) (f x))
-    ∙ ap (with_new names) (sym (parts_more f xs i x lt at))
+-- the name of one constraint more, where it is a preference
+abbrev name_of : ConstraintLeaf → List Text
+name_of l = preference_name (text_of l.name)
+
+pub constraint_names-next : (names now next : List Text) (xs : List ConstraintLeaf) (i : ℕ) (x : ConstraintLeaf) → i < length xs → x ≡ get_or xs i x
+    → now ≡ with_new names (flat_map name_of (take i xs)) → next ≡ with_new now (name_of x) → next ≡ with_new names (flat_map name_of (take (i + 1) xs))
+constraint_names-next names now next xs i x lt at h e =
+    e ∙ ap (λ (l : List Text). with_new l (name_of x)) h ∙ sym (with_new-append names (flat_map name_of (take i xs)) (name_of x))
+    ∙ ap (with_new names) (sym (parts_more name_of xs i x lt at))
 
 -- ---- how many there are
 

@@ -34,9 +34,6 @@ found o a N P e h = subst (λ x. MatchOption x N P) e h
 pub missing : {A : Type 0} (o : Option A) (N : Type 0) (P : A → Type 0) → o ≡ None → MatchOption o N P → N
 missing o N P e h = subst (λ x. MatchOption x N P) e h
 
-before_or_here : (k n : ℕ) → k < n + 1 → (k < n) ⊎ (k ≡ n)
-before_or_here k n h = grind arith
-
 -- ---- term by term
 
 -- the first terms fit
@@ -46,7 +43,7 @@ FirstFit limit terms e = (k : ℕ) (d : ℕ × ℚ) → k < e → Fits limit (ge
 pub FirstFit-next : (limit : ℕ) (row : List (ℕ × ℚ)) (e : ℕ) (t : ℕ × ℚ) → e < length row → t ≡ get_or row e t → Fits limit t.1 → FirstFit limit (terms_of (λ q. q) row) e → FirstFit limit (terms_of (λ q. q) row) (e + 1)
 FirstFit-next limit row e t h is f before k d l = ⊎_elim (λ (a : k < e). before k d a)
     (λ (q : k ≡ e). subst (λ (m : ℕ). Fits limit (get_or (terms_of (λ q. q) row) m d).1) (sym q) (subst (λ (u : ℕ × ℚ). Fits limit u.1) (sym (terms_of-at (λ (q : ℚ). q) row e t d h is)) f))
-    (before_or_here k e l)
+    (let split : (k < e) ⊎ (k ≡ e) = grind arith in split)
 
 pub TermsFit-not : (limit : ℕ) (row : List (ℕ × ℚ)) (e : ℕ) (t : ℕ × ℚ) → e < length row → t ≡ get_or row e t → ¬ Fits limit t.1 → ¬ TermsFit limit (terms_of (λ q. q) row)
 TermsFit-not limit row e t h is n f = n (subst (λ (u : ℕ × ℚ). Fits limit u.1) (terms_of-at (λ (q : ℚ). q) row e t t h is) (f e t (omega (arith, h, length-terms_of (λ (q : ℚ). q) row))))
@@ -62,7 +59,7 @@ module _ {Z : Type 0} (limit : ℕ) (rows : List (Vec (ℕ × ℚ) Z)) (e : ℕ)
   pub FirstRowsFit-next : TermsFit limit (terms_of (λ q. q) xs) → FirstRowsFit limit (terms_of_rows (λ q. q) rows) e → FirstRowsFit limit (terms_of_rows (λ q. q) rows) (e + 1)
   FirstRowsFit-next f before i l = ⊎_elim (λ (a : i < e). before i a)
       (λ (q : i ≡ e). subst (λ (m : ℕ). TermsFit limit (terms_in (terms_of_rows (λ q. q) rows) m)) (sym q) (subst (TermsFit limit) (sym (terms_in-read (λ (q : ℚ). q) rows e row xs inside is read)) f))
-      (before_or_here i e l)
+      (let split : (i < e) ⊎ (i ≡ e) = grind arith in split)
 
   pub RowTermsFit-not : ¬ TermsFit limit (terms_of (λ q. q) xs) → ¬ RowTermsFit limit (terms_of_rows (λ q. q) rows)
   RowTermsFit-not n f = n (subst (TermsFit limit) (terms_in-read (λ (q : ℚ). q) rows e row xs inside is read) (f e (omega (arith, inside, length-terms_of_rows (λ (q : ℚ). q) rows))))
@@ -141,9 +138,6 @@ module _ (t : Tableau ℚ) (rows : AreRows (λ q. q) wide_limit t) where
     }
 
 -- ---- the first dictionary has such numbers exactly where the program has
-neg-neg : (a : ℚ) → neg_ℚ (neg_ℚ a) ≡ a
-neg-neg a = law ℚ_ring (a ∷ []) (λ a. minus (minus a) ≐ a) refl
-
 module _ (p : Program) (even : IsEven p) where
   row-initial : (r : ℕ) → r < length p.rows → row_in (initial p).rows r ≡ slack_row (row_at p.rows r)
   row-initial r h = get_or-map slack_row p.rows r no_row [] h
@@ -172,7 +166,7 @@ module _ (p : Program) (even : IsEven p) where
   pub initial-IsNarrow : HasNarrowNumbers (initial p) → IsNarrow p
   initial-IsNarrow f = record {
     rows = λ r l. let row = subst (RowFits narrow_limit) (row-initial r l) (f.rows r (omega (arith, l, length-map p.rows slack_row))) in record {
-      entries = λ v h. subst (Fits narrow_limit) (neg-neg (entry_of p r v)) (fits-neg narrow_limit (neg_ℚ (entry_of p r v)) (subst (Fits narrow_limit) (sym (slack-entry p even r l v h)) (row v (omega (arith, h, slack-length r l)))));
+      entries = λ v h. subst (Fits narrow_limit) (law ℚ_ring (entry_of p r v ∷ []) (λ a. minus (minus a) ≐ a) refl) (fits-neg narrow_limit (neg_ℚ (entry_of p r v)) (subst (Fits narrow_limit) (sym (slack-entry p even r l v h)) (row v (omega (arith, h, slack-length r l)))));
       bound = subst (Fits narrow_limit) (slack-bound r l) (row (length p.costs) (omega (arith, slack-length r l)));
     };
     costs = λ v h. subst (Fits narrow_limit) (with_last-first p.costs p.base v h) (f.cost v (omega (arith, h, with_last-length p.costs p.base (length p.costs) refl)));

@@ -1,9 +1,7 @@
-use Rattle.ground_world.proofs.NewNames.{names-parts}
-use Rattle.ground_world.specs.Leaves.{preference_name}
-use Rattle.ground_world.specs.ShownLeaves.{text_of}
+use Rattle.ground_world.proofs.NewNames.{constraint_names-next}
 use Rattle.ground_world.proofs.metric_unknowns.add_constraints.Goals as goal
 
 pub loop-leaf-preserved : goal.loop-leaf-preserved
 loop-leaf-preserved c =
-    names-parts (λ l. preference_name (text_of l.name)) c.args.names.now _ _ c.args.leaves.now c.loop-leaf.leaf-index c.leaf-item.result
+    constraint_names-next c.args.names.now _ _ c.args.leaves.now c.loop-leaf.leaf-index c.leaf-item.result
     c.loop-leaf-test.true c.leaf-item.is c.loop-leaf.invariant c.in_ok-add_constraint.ensures
