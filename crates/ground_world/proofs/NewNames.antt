@@ -21,7 +21,7 @@ names-next f names now next xs i x lt at h e =
     ∙ ap (with_new names) (sym (ap (map f) (taken xs i x lt at) ∙ map-append f (take i xs) (x ∷ [])))
 
 -- the name of one constraint more, where it is a preference
-abbrev name_of : ConstraintLeaf → List Text
+abbrev pub name_of : ConstraintLeaf → List Text
 name_of l = preference_name (text_of l.name)
 
 pub constraint_names-next : (names now next : List Text) (xs : List ConstraintLeaf) (i : ℕ) (x : ConstraintLeaf) → i < length xs → x ≡ get_or xs i x
