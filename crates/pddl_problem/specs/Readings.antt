@@ -1,5 +1,5 @@
 -- Believed: what it is to read a problem of a domain.
-use Rattle.std.specs.Prelude.{ℕ, List, [], ◌∷◌, Option, Result}
+use Rattle.std.specs.Prelude.{ℕ, List, [], ◌∷◌, ◌++◌, Option, Result}
 use Rattle.pddl_terms.specs.declared.faults.PddlFault.{PddlFault}
 use Rattle.pddl_terms.specs.declared.files.Domain.{Domain}
 use Rattle.pddl_terms.specs.declared.files.Problem.{Problem}
@@ -8,12 +8,13 @@ use Rattle.pddl_names.specs.declared.offences.Offence.{Offence}
 use Rattle.pddl_names.specs.Files.{problem_name_offences, problem_type_offences}
 use Rattle.pddl_forms.specs.Forms.{problem_forms}
 use Rattle.pddl_forms.specs.Limits.{problem_limits}
+use Rattle.metric_sign.specs.Signs.{metric_sign_offences}
 use Rattle.pddl_domain.specs.Phases.{first_of_phases, refusal_for}
 use Rattle.pddl_problem.specs.Problems.{wrong_problem, problem_told}
 
--- what is wrong with a problem's forms; the signs in its metric aren't among them
+-- what is wrong with a problem's forms, the signs in its metric among them
 abbrev pub form_offences : Domain → Problem → List Offence
-form_offences d p = problem_forms d p
+form_offences d p = problem_forms d p ++ metric_sign_offences d p
 
 -- a problem's names, the types of its terms, its forms and its limits
 unfoldable pub problem_offence : Domain → Problem → Option Offence

@@ -5,12 +5,13 @@ ghost use Rattle.pddl_names.specs.Offences.{least};
 ghost use Rattle.pddl_problem.specs.Readings.{form_offences, problem_offence};
 
 use exact_lin::NoMemory;
+use metric_sign::metric_sign_offence;
 use pddl_forms::{problem_form_offence, problem_limit_offence};
-use pddl_names::{Offence, first_problem_name_offence, first_problem_type_offence};
+use pddl_names::{Offence, earlier, first_problem_name_offence, first_problem_type_offence};
 use pddl_terms::{Domain, Problem};
 use std::alloc::Global;
 
-/// The offence of least place in its forms. The signs of the coefficients in its metric aren't asked yet.
+/// The offence of least place in its forms, or of a term of its metric that rewards a plan.
 fn form_offence(
     alloc: Global,
     domain: &Domain,
@@ -18,7 +19,9 @@ fn form_offence(
 ) -> Result<Option<Offence>, NoMemory>
     ensures { IfOk result (λ found. found ≡ least (form_offences domain.now problem.now)) }
 {
-    problem_form_offence(alloc, domain, problem)
+    let wrong = problem_form_offence(alloc, domain, problem)?;
+    let rewarding = metric_sign_offence(alloc, domain, problem)?;
+    Ok(earlier(wrong, rewarding))
 }
 
 /// The offence of least place in the first phase that has any: names, types, forms or limits.
