@@ -52,11 +52,11 @@ stopped : {P : Type 0} (at : ℕ) (r : Option Rest) (go : Rest → List ℕ) →
 stopped at None go e h = let t : at ∷ [] ≡ [] = h in absurd cc
 stopped at (Some r) go e h = absurd cc
 
-gone : (at : ℕ) (r : Option Rest) (go : Rest → List ℕ) (s : Rest) → r ≡ Some s → or_here at r go ≡ [] → go s ≡ []
+pub gone : (at : ℕ) (r : Option Rest) (go : Rest → List ℕ) (s : Rest) → r ≡ Some s → or_here at r go ≡ [] → go s ≡ []
 gone at r go s e h = sym (ap (λ o. or_here at o go) e) ∙ h
 
 -- what a test let through
-let_through : (at : ℕ) (b : Bool) (s : Rest) (go : Rest → List ℕ) → or_here at (only_if b s) go ≡ [] → (b ≡ true) × (go s ≡ [])
+pub let_through : (at : ℕ) (b : Bool) (s : Rest) (go : Rest → List ℕ) → or_here at (only_if b s) go ≡ [] → (b ≡ true) × (go s ≡ [])
 let_through at true s go h = (refl, h)
 let_through at false s go h = let t : at ∷ [] ≡ [] = h in absurd cc
 

@@ -92,7 +92,7 @@ less-is Greater = refl
 lt-is : (q r : ℚ) → (q <? r) ≡ is_below q r
 lt-is q r = less-is (cmp_ℚ q r)
 
-le-is : (q r : ℚ) → (q ≤? r) ≡ is_at_most q r
+pub le-is : (q r : ℚ) → (q ≤? r) ≡ is_at_most q r
 le-is q r = ap not (less-is (cmp_ℚ r q))
 
 three-are : (a b c x y z : Bool) → a ≡ x → b ≡ y → c ≡ z → (a && b && c) ≡ (x && y && z)

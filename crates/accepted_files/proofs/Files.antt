@@ -175,6 +175,20 @@ module _ (d : Domain) (p : Problem) (clean : IsClean d p) (named : TypesAreNamed
   cost_offences-none phase e = nothing_left (flat_map (files.cost_offences phase (files.problem_tables d p)) p.time_costs) (in_names phase (doubles [] (files.cost_names p.time_costs)))
       (nothing_left (files.all_cost_offences phase (files.problem_tables d p) p.time_costs) (files.metric_offences phase (files.problem_tables d p) p.metric) e.costs)
 
+  -- ---- the metric
+
+  pub metric_forms : FormsOfMetric ≡ []
+  metric_forms = nothing_right ((goals.goal_offences (functions_of d) p.goal ++ FormsOfConstraints p.constraints) ++ FormsOfCosts) FormsOfMetric wishes_forms
+
+  metric_offences-none : (phase : Phase) → Asked phase → files.metric_offences phase (files.problem_tables d p) p.metric ≡ []
+  metric_offences-none phase e = nothing_right (files.all_cost_offences phase (files.problem_tables d p) p.time_costs) (files.metric_offences phase (files.problem_tables d p) p.metric) e.costs
+
+  pub metric_names : files.metric_offences Names (files.problem_tables d p) p.metric ≡ []
+  metric_names = metric_offences-none Names names_asked
+
+  pub metric_types : files.metric_offences Types (files.problem_tables d p) p.metric ≡ []
+  metric_types = metric_offences-none Types types_asked
+
   -- ---- what is mentioned
 
   goal_mentions : Each Atom (goal_atoms (world d p) [] p.goal)

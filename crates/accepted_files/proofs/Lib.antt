@@ -14,4 +14,7 @@ pub mod Cleaning
 pub mod PartSizes
 pub mod Costs
 pub mod Distinct
+pub mod NamedUnknowns
+pub mod MetricParts
+pub mod MetricWeights
 pub mod Promises

@@ -38,12 +38,13 @@ use Rattle.grounder.proofs.Columns.{atoms-below}
 use Rattle.grounder.proofs.Each.{each_weaker, each_map, each_filter, each_enumerated, each_everywhere, any_of_each}
 use Rattle.grounder.proofs.WorldFacts.{fitting-below}
 use Rattle.accepted_files.specs.Clean.{IsClean}
-use Rattle.accepted_files.specs.Laws.{AtomsAreBindings, HaveTaskNames, IsSymbolWithin, IsActionWithin, PartsAreNoLonger, text_limit, WeightsAreNotNegative, AcceptedTimeCostsFit, ReadersPromise}
+use Rattle.accepted_files.specs.Laws.{AtomsAreBindings, HaveTaskNames, IsSymbolWithin, IsActionWithin, PartsAreNoLonger, text_limit, AcceptedTimeCostsFit, ReadersPromise}
 use Rattle.accepted_files.proofs.Cleaning.{files_clean}
 use Rattle.accepted_files.proofs.Costs.{costs-fit}
 use Rattle.accepted_files.proofs.Distinct.{apart-new, all-new, keys-firsts, names-are}
 use Rattle.accepted_files.proofs.FileNames.{file_names, types_named}
 use Rattle.accepted_files.proofs.Files.{cost_forms, clean_atoms-bound}
+use Rattle.accepted_files.proofs.MetricWeights.{weights_not_negative}
 use Rattle.accepted_files.proofs.PartSizes.{one-atom, sorts-many, parts_no_longer}
 use Rattle.accepted_files.proofs.Variables.{names-typed, are_apart}
 use Rattle.ground_world.proofs.NewNames.{with_new-length}
@@ -185,8 +186,8 @@ module _ (domain problem : List ℕ) (d : Domain) (p : Problem) (domain_few : le
   unfolding world
   named = and_in _ _ (symbols-named (length domain) domain_few (signatures_of d.predicates) predicates) (symbols-named (length domain) domain_few (signatures_of d.functions) functions)
 
-  pub accepted : WeightsAreNotNegative d p → IsAccepted d p
-  accepted weights = record {
+  pub accepted : IsAccepted d p
+  accepted = record {
     objects = and_in (is_short (world d p).objects) (are_names (world d p).objects) few_objects (objects-named d p names);
     schemas = and_in (is_short d.actions) (are_names (action_names d)) (short d.actions (length domain) (is_no_longer domain d f).actions domain_few) action-names;
     small = actions-small (length domain) domain_few d.actions parts.actions (parameters_are_few d clean.domain_limits);
@@ -197,12 +198,12 @@ module _ (domain problem : List ℕ) (d : Domain) (p : Problem) (domain_few : le
     valued = atoms.valued;
     timed = and_in _ _ (short (timings (world d p) p.init) (length problem) (let few = timings-few (world d p) p.init in let entries = parts.entries in omega (arith, few, entries)) problem_few)
         (both-hold (is_binding (world d p) d.predicates) (timings (world d p) p.init) (timings-above (world d p) p.init (moments_lie_above d p clean.problem_forms)) atoms.timed);
-    weights = weights;
+    weights = weights_not_negative domain problem d p f g;
     late = costs-fit d problem p g (cost_forms d p clean (types_named d p names)) clean.problem_limits;
   }
 
 pub readers_promise : ReadersPromise
-readers_promise domain problem d p domain_few problem_few f g weights = accepted domain problem d p domain_few problem_few f g weights
+readers_promise domain problem d p domain_few problem_few f g = accepted domain problem d p domain_few problem_few f g
 
 pub accepted_costs : AcceptedTimeCostsFit
 accepted_costs domain problem d p f g =

@@ -1,4 +1,4 @@
--- Believed: a domain and a problem in which no phase of their readers finds an offence.
+-- Believed: a domain and a problem in which no name, type, form or limit is wrong.
 use Rattle.std.specs.Prelude.{◌≡◌, not, IsTrue, []}
 use Rattle.std.specs.List.{list_all}
 use Rattle.pddl_terms.specs.declared.files.Domain.{Domain}
@@ -9,7 +9,7 @@ use Rattle.pddl_names.specs.Files.{name_offences, type_offences_of, problem_name
 use Rattle.pddl_forms.specs.Forms.{domain_forms, problem_forms}
 use Rattle.pddl_forms.specs.Limits.{domain_limits, problem_limits}
 
--- No name, no type, no form and no limit is wrong.
+-- No phase of the readers finds an offence, the signs of a metric aside.
 pub record IsClean (d : Domain) (p : Problem) : Type 0 where
   pub domain_names : name_offences d ≡ []
   pub domain_types : type_offences_of d ≡ []

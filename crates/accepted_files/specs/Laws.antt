@@ -1,5 +1,5 @@
 -- Believed: what is claimed of domains and problems in which no phase finds an offence, and of those that readers accept.
-use Rattle.std.specs.Prelude.{ℕ, ◌*◌, ◌≤◌, true, IsTrue, List, length}
+use Rattle.std.specs.Prelude.{ℕ, ◌*◌, ◌≤◌, IsTrue, List, length}
 use Rattle.std.specs.List.{AllByRecursion, flat_map, list_all}
 use Rattle.task_types.specs.WellMade.{is_task_name}
 use Rattle.pddl_terms.specs.declared.files.ActionDef.{ActionDef}
@@ -14,10 +14,9 @@ use Rattle.pddl_problem.specs.Readings.{IsProblem}
 use Rattle.ground_world.specs.FirstState.{given_value, world}
 use Rattle.ground_world.specs.Changes.{changes}
 use Rattle.ground_world.specs.Conditions.{body_bounds}
-use Rattle.ground_world.specs.World.{either}
-use Rattle.ground_world.specs.Leaves.{costs, unknowns, minimised_value}
+use Rattle.ground_world.specs.Leaves.{costs}
 use Rattle.grounder.specs.Instances.{instances_of}
-use Rattle.grounder.specs.Accepted.{is_binding, instance_atoms, curve_fits, weighs_right, IsAccepted}
+use Rattle.grounder.specs.Accepted.{is_binding, instance_atoms, curve_fits, IsAccepted}
 use Rattle.grounder.specs.Task.{mentioned_atoms, timings}
 use Rattle.accepted_files.specs.Clean.{IsClean, TypesAreNamed}
 
@@ -34,7 +33,7 @@ CleanAtomsAreBindings = (d : Domain) (p : Problem) → IsClean d p → TypesAreN
 
 -- ---- what readers accept
 
--- No phase finds an offence.
+-- No name, no type, no form and no limit is wrong.
 abbrev pub AcceptedFilesAreClean : Type 0
 AcceptedFilesAreClean = (domain problem : List ℕ) (d : Domain) (p : Problem) → IsDomain domain d → IsProblem d problem p → IsClean d p
 
@@ -81,11 +80,7 @@ AcceptedTimeCostsFit = (domain problem : List ℕ) (d : Domain) (p : Problem) �
 abbrev pub text_limit : ℕ
 text_limit = 1048576
 
--- no preference, time cost or total time has a weight below 0 in a metric that has a value
-abbrev pub WeightsAreNotNegative : Domain → Problem → Type 0
-WeightsAreNotNegative d p = IsTrue (either true (weighs_right (world d p)) (minimised_value (world d p) (unknowns d p) p.metric))
-
--- What the readers accept the grounder accepts, where no text is too long and no weight is below 0.
+-- What the readers accept the grounder accepts, where no text is too long.
 abbrev pub ReadersPromise : Type 0
 ReadersPromise = (domain problem : List ℕ) (d : Domain) (p : Problem) → length domain ≤ text_limit → length problem ≤ text_limit
-    → IsDomain domain d → IsProblem d problem p → WeightsAreNotNegative d p → IsAccepted d p
+    → IsDomain domain d → IsProblem d problem p → IsAccepted d p

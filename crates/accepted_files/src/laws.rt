@@ -16,7 +16,7 @@ pub fn clean_atoms_are_bindings()
     ensures { CleanAtomsAreBindings }
 {}
 
-/// In a domain and a problem of it that their readers accept, no phase finds an offence.
+/// In a domain and a problem of it that their readers accept, no name, type, form or limit is wrong.
 pub fn accepted_files_are_clean()
     ensures { AcceptedFilesAreClean }
 {}
@@ -28,8 +28,8 @@ pub fn accepted_names_are_task_names()
     ensures types { AcceptedTypesAreNamed }
 {}
 
-/// A name, a list of parameters, the changes of an action and the entries of `:init` that readers accept are no longer than
-/// the text, and an action has half as many bounds of its duration.
+/// A name, a list of parameters, the changes of an action and the entries of `:init` that readers accept are no longer
+/// than the text, and an action has half as many bounds of its duration.
 pub fn accepted_parts_are_no_longer()
     ensures { AcceptedPartsAreNoLonger }
 {}
@@ -41,7 +41,7 @@ pub fn accepted_time_costs_fit()
 {}
 
 /// A domain and a problem that their readers accept are such as the grounder asks for, where neither text has more than
-/// 1,048,576 bytes and the metric gives no weight below 0 to a preference, a time cost or the total time.
+/// 1,048,576 bytes.
 pub fn readers_promise()
     ensures { ReadersPromise }
 {}
