@@ -33,8 +33,8 @@ pub(crate) fn read_shape(alloc: Global, text: &[u8]) -> Result<Problem, PddlFaul
 
 /// Reads a problem of a domain: the tree that the grammar derives, where nothing is wrong with its names, types, forms
 /// and limits. Else the first fault of the tokens; or `Shape` at the first byte at which no accepted text can go on; or
-/// what is wrong in the first of those four phases that finds anything, at its least byte. A call may also fail for want
-/// of memory. The signs of the coefficients in a metric aren't asked.
+/// what is wrong in the first of those four phases that finds anything, at its least byte. That a metric doesn't reward
+/// late plans, violated preferences or time costs is asked with the forms. A call may also fail for want of memory.
 pub fn read_problem(alloc: Global, text: &[u8], domain: &Domain) -> Result<Problem, PddlFault>
     requires { length text.now < 2 ^ 32 }
     ensures { ReadsProblem domain.now text.now result }
