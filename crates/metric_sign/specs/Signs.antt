@@ -1,6 +1,6 @@
 -- Believed: the terms that only a metric has, the total time, violated preferences and time costs, whose coefficient in
 -- the minimised form is below 0.
-use Rattle.std.specs.Prelude.{ℕ, Bool, if◌then◌else◌, List, [], ◌∷◌, ◌++◌, Option, Some, None, is_none}
+use Rattle.std.specs.Prelude.{ℕ, if◌then◌else◌, List, [], ◌∷◌, ◌++◌, is_none}
 use Rattle.std.specs.List.{flat_map}
 use Rattle.rational.specs.Rational.{zeroℚ}
 use Rattle.exact_lin.specs.Forms.{LinearForm, coefficient}

@@ -5,7 +5,7 @@ use Rattle.ground_world.specs.Shown.{world_of}
 use Rattle.metric_sign.specs.Signs.{valued_offences}
 use Rattle.metric_sign.proofs.signs.least_in_world.Goals as goal
 
-pub returns-in_ok-found : goal.returns-in_ok-found
-returns-in_ok-found c =
+pub returns : goal.returns
+returns c =
     c.in_ok-found.ensures
     ∙ ap (λ us. least (some_offences (valued_offences (world_of c.args.tables.now) us) c.args.problem.now.metric)) c.in_ok-names.ensures

@@ -5,7 +5,7 @@ use Rattle.ground_world.specs.Leaves.{unknowns}
 use Rattle.metric_sign.specs.Signs.{valued_offences}
 use Rattle.metric_sign.proofs.signs.least_of_problem.Goals as goal
 
-pub returns-in_ok-found : goal.returns-in_ok-found
-returns-in_ok-found c =
+pub returns : goal.returns
+returns c =
     c.in_ok-found.ensures
     ∙ ap (λ w. least (some_offences (valued_offences w (unknowns c.args.domain.now c.args.problem.now)) c.args.problem.now.metric)) c.in_ok-tables.ensures
