@@ -21,6 +21,7 @@ pub mod PreferenceSteps
 pub mod Asking
 pub mod ConstraintSteps
 pub mod TrailSteps
+pub mod LeafSteps
 pub mod Passed
 pub mod WorldFacts
 pub mod Conditions

@@ -50,6 +50,12 @@ module _ {X : Type 0} (xs : List X) (i : ℕ) (x : X) (lt : i < length xs) (at :
   joined_of_more g f old before after h k =
       joined_more (λ y. f (g y)) old before after (h ∙ ap (λ l. old ++ l) (flat_map-map f g (take i xs))) k ∙ ap (λ l. old ++ l) (sym (flat_map-map f g (take (i + 1) xs)))
 
+  pub put_of_more : {Y Z : Type 0} (g : X → Z) (f : Z → Y) (old before after : List Y) → before ≡ old ++ map f (map g (take i xs)) → after ≡ before ++ (f (g x) ∷ [])
+      → after ≡ old ++ map f (map g (take (i + 1) xs))
+  put_of_more g f old before after h k =
+      k ∙ ap (λ l. l ++ (f (g x) ∷ [])) h ∙ append_assoc old (map f (map g (take i xs))) (f (g x) ∷ [])
+      ∙ ap (λ l. old ++ l) (sym (ap (λ l. map f (map g l)) one_more ∙ ap (map f) (map-append g (take i xs) (x ∷ [])) ∙ map-append f (map g (take i xs)) (g x ∷ [])))
+
 -- ---- bindings by their numbers
 
 -- variables with few bindings, or that they have too many

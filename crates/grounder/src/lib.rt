@@ -2,6 +2,8 @@
 #![tactic(auto)]
 
 mod atoms;
+mod constraint_terms;
+mod cost_terms;
 mod curves;
 pub mod examples;
 mod faults;
@@ -17,7 +19,6 @@ mod moments;
 mod preferences;
 mod quantified;
 mod quantifying;
-mod sides;
 #[cfg(test)]
 mod tests;
 mod timings;

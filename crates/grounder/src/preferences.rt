@@ -7,9 +7,8 @@ ghost use Rattle.ground_world.specs.Shown.{env_of, world_of, parts_of};
 ghost use Rattle.grounder.specs.ShownPreferences.{preference_of, preferences_of, preference_count, preferences_count, compared_parts};
 ghost use Rattle.grounder.specs.Terms.{equal_preference, preference_parts};
 
-use crate::sides::equal_part;
 use exact_lin::NoMemory;
-use ground_world::{Bound, CondPart, Tables, push_parts};
+use ground_world::{Bound, CondPart, Tables, equal_part, push_parts};
 use pddl_names::is_equality;
 use pddl_terms::{CondTree, FactForm, Side, SoftTree};
 use sqlite_items::Items;

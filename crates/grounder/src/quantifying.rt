@@ -2,14 +2,15 @@
 
 ghost use Rattle.std.specs.Prelude.{◌≡◌, ◌≤◌, ◌<◌, IfOk, MatchOption, slice_index_or, []};
 ghost use Rattle.ground_world.specs.World.{Env, columns};
-ghost use Rattle.ground_world.specs.Bindings.{choice_count, bindings};
-ghost use Rattle.ground_world.specs.Counts.{binding_limit};
+ghost use Rattle.ground_world.specs.Bindings.{choice_count, bindings, nested_bindings};
+ghost use Rattle.ground_world.specs.Counts.{around_count, binding_limit};
 ghost use Rattle.ground_world.specs.Shown.{env_of, columns_of, world_of};
+ghost use Rattle.ground_world.specs.ShownLeaves.{lists_of};
 ghost use Rattle.grounder.specs.ShownQuantified.{envs_of};
 
 use crate::quantified::Quantified;
 use exact_lin::NoMemory;
-use ground_world::{Bound, Tables, Variable, bound, choices_within, variables};
+use ground_world::{Bound, Tables, Variable, bound, choices_within, nested_variables, variables};
 use pddl_terms::Group;
 use sqlite_items::Items;
 use std::alloc::Global;
@@ -36,6 +37,18 @@ pub fn quantified<'a>(
     ensures { IfOk result (λ q. (env : Env) → envs_of q env ≡ bindings (world_of tables.now) env groups.now) }
 {
     Ok(counted(variables(alloc, tables, groups)?))
+}
+
+/// The variables of several typed lists, one inside the other, outer first, of which there are few enough bindings.
+pub fn nested<'a>(
+    alloc: Global,
+    tables: &'a Tables,
+    around: &[&'a [Group]],
+) -> Result<Quantified<'a>, NoMemory>
+    requires { around_count (world_of tables.now) (lists_of around.now) ≤ binding_limit }
+    ensures { IfOk result (λ q. (env : Env) → envs_of q env ≡ nested_bindings (world_of tables.now) env (lists_of around.now)) }
+{
+    Ok(counted(nested_variables(alloc, tables, around)?))
 }
 
 /// The variables of a typed list, or None where they have more bindings than a part may have around it.
