@@ -1,10 +1,10 @@
 -- Facts of each element of lists that are made of others.
-use Rattle.std.proofs.Common.{◌≡◌, refl, sym, ap, subst, ◌∙◌, ℕ, suc, ◌+◌, ◌≤◌, arith, Bool, true, false, ◌||◌, nat_lt, List, [], ◌∷◌, ◌++◌, map, cond, length, append_assoc}
-use Rattle.std.specs.List.{AllByRecursion as Each, flat_map, filter, enumerate_from, list_any}
+use Rattle.std.proofs.Common.{◌≡◌, refl, sym, ap, subst, ◌∙◌, ℕ, ◌+◌, ◌<◌, ◌≤◌, arith, Bool, true, false, ◌||◌, nat_lt, List, [], ◌∷◌, ◌++◌, map, cond, length, get_or, append_assoc}
+use Rattle.std.specs.List.{AllByRecursion as Each, flat_map, filter, enumerate_from, list_any, list_all}
 use Rattle.std.proofs.lemmas.List.Folds.{list_any-append}
 use Rattle.basics.proofs.Bools.{or_left, or_right}
 use Rattle.basics.proofs.Naturals.{lt_in}
-use Rattle.basics.proofs.Lists.{each_append, each_left, each_right}
+use Rattle.basics.proofs.Lists.{all_out, each_append, each_at, each_left, each_right}
 
 pub each_weaker : {X : Type 0} (P Q : X → Type 0) → ((x : X) → P x → Q x) → (xs : List X) → Each P xs → Each Q xs
 each_weaker P Q f [] h = tt
@@ -77,3 +77,7 @@ each_number n m (x ∷ xs) h = (lt_in n m (omega arith), each_number (n + 1) m x
 pub each_enumerated : {X : Type 0} (P : X → Type 0) (n : ℕ) (xs : List X) → Each P xs → Each (λ x. P x.1) (enumerate_from n xs)
 each_enumerated P n [] h = tt
 each_enumerated P n (x ∷ xs) h = (h.0, each_enumerated P (n + 1) xs h.1)
+
+-- each item passes a test that all pass
+pub passes : {X : Type 0} (p : X → Bool) (xs : List X) (i : ℕ) (x : X) → i < length xs → x ≡ get_or xs i x → list_all p xs ≡ true → p x ≡ true
+passes p xs i x lt at h = subst (λ y. p y ≡ true) (sym at) (each_at (λ y. p y ≡ true) xs i x lt (all_out p xs h))

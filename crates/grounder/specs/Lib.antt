@@ -4,6 +4,11 @@ pub mod Task
 pub mod Answer
 pub mod Accepted
 pub mod Laws
+pub mod ShownGrounding
+pub mod ShownInstances
+pub mod Bindings
+pub mod ShownPieces
+pub mod Building
 pub mod ExampleWords
 pub mod ExampleBindings
 pub mod ExampleFacts

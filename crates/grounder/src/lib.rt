@@ -1,14 +1,33 @@
 //! Grounding: from a domain and a problem to the ground task, by enumeration of bindings.
 #![tactic(auto)]
 
+mod action_conditions;
+mod action_effects;
+mod actions;
+mod assignments;
+mod binding_flaws;
+mod bounds;
 pub mod examples;
 mod faults;
 mod flaws;
+mod fluent_forms;
+mod grounding;
+mod ids;
+mod instances;
+mod judging;
 pub mod laws;
 mod limits;
+mod mentions;
+mod outlines;
+mod rates;
+mod reckonings;
 #[cfg(test)]
 mod tests;
 
+pub use actions::{GroundActions, ground_actions};
 pub use faults::{GroundFault, LimitName};
 pub use flaws::{least_place, least_wide, least_zero_divisor};
+pub use grounding::Grounding;
+pub use instances::Instance;
+pub use judging::{KeptInstances, kept_instances};
 pub use limits::limit_fault;
