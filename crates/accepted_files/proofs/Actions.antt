@@ -2,7 +2,7 @@
 use Rattle.std.proofs.Common.{◌≡◌, refl, sym, subst, ◌∙◌, ℕ, true, List, [], ◌++◌, map, Some, None}
 use Rattle.std.specs.List.{AllByRecursion as Each, flat_map, list_all}
 use Rattle.std.specs.Option.{option_map_or}
-use Rattle.basics.proofs.Lists.{all_in, each_append, each_first, nothing_left, nothing_right, nothing_each}
+use Rattle.basics.proofs.Lists.{all_in, each_append, each_first, nothing_left, nothing_right, nothing_each, each_map}
 use Rattle.pddl_terms.specs.declared.files.ActionBody.{ActionBody}
 use Rattle.pddl_terms.specs.declared.files.ActionBody.TheVariants.{Instant, Durative}
 use Rattle.pddl_terms.specs.declared.files.ActionDef.{ActionDef}
@@ -48,7 +48,7 @@ use Rattle.ground_world.proofs.Walks as world_walk
 use Rattle.grounder.specs.Instances.{instances_of, conditions_of}
 use Rattle.grounder.specs.Accepted.{is_binding, changed_atoms, instance_atoms}
 use Rattle.grounder.specs.Terms.{part_atoms}
-use Rattle.grounder.proofs.Each.{each_weaker, each_map, map_each, each_flat_map, each_everywhere}
+use Rattle.grounder.proofs.Each.{each_weaker, map_each, each_flat_map, each_everywhere}
 use Rattle.grounder.proofs.Inductions.{each_timed_condition}
 use Rattle.accepted_files.specs.Clean.{TypesAreNamed}
 use Rattle.accepted_files.proofs.OffenceWalks as offence

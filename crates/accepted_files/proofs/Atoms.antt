@@ -9,7 +9,7 @@ use Rattle.std.specs.Str.{bytes_eq}
 use Rattle.std.proofs.lemmas.Bool.Decides.{nat_tests}
 use Rattle.std.proofs.lemmas.Bool.{or_cases}
 use Rattle.basics.proofs.Bools.{not_true, and_in}
-use Rattle.basics.proofs.Lists.{each_append, all_out, nothing_left, nothing_right, nothing_each}
+use Rattle.basics.proofs.Lists.{each_append, all_out, nothing_left, nothing_right, nothing_each, each_map}
 use Rattle.task_types.specs.WellMade.{arguments_fit}
 use Rattle.pddl_terms.specs.declared.files.Domain.{Domain}
 use Rattle.pddl_terms.specs.declared.files.Problem.{Problem}
@@ -35,7 +35,7 @@ use Rattle.ground_world.specs.World.{Env, columns, variable_names, place_in, bou
 use Rattle.ground_world.specs.Bindings.{choices, paired, bindings}
 use Rattle.ground_world.specs.FirstState.{types_of, objects_of, signatures_of, world}
 use Rattle.grounder.specs.Accepted.{is_binding}
-use Rattle.grounder.proofs.Each.{each_weaker, each_map}
+use Rattle.grounder.proofs.Each.{each_weaker}
 use Rattle.grounder.proofs.Choosing.{choices-fit}
 use Rattle.grounder.proofs.Columns.{value-given}
 use Rattle.accepted_files.specs.Clean.{TypesAreNamed}

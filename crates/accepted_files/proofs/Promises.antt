@@ -5,7 +5,7 @@ use Rattle.std.specs.Str.{bytes_eq}
 use Rattle.std.proofs.lemmas.List.{length-append, length-map, map-append}
 use Rattle.basics.proofs.Bools.{and_left, and_right, and_in}
 use Rattle.basics.proofs.Naturals.{le_in}
-use Rattle.basics.proofs.Lists.{all_in, all_out, all_append, all_weaker, each_append}
+use Rattle.basics.proofs.Lists.{all_in, all_out, all_append, all_weaker, each_append, each_map}
 use Rattle.rational.specs.Rational.{zeroℚ, ◌<ℚ◌}
 use Rattle.task_types.specs.Tests.{◌<?◌}
 use Rattle.task_types.specs.WellMade.{list_limit, is_short, are_below, is_task_name, are_names}
@@ -35,7 +35,7 @@ use Rattle.ground_world.specs.FirstState.{signatures_of, world}
 use Rattle.grounder.specs.Accepted.{is_small, is_binding, IsAccepted}
 use Rattle.grounder.specs.Task.{Timing, timing, timings, mentioned_atoms}
 use Rattle.grounder.proofs.Columns.{atoms-below}
-use Rattle.grounder.proofs.Each.{each_weaker, each_map, each_filter, each_enumerated, each_everywhere, any_of_each}
+use Rattle.grounder.proofs.Each.{each_weaker, each_filter, each_enumerated, each_everywhere, any_of_each}
 use Rattle.grounder.proofs.WorldFacts.{fitting-below}
 use Rattle.accepted_files.specs.Clean.{IsClean}
 use Rattle.accepted_files.specs.Laws.{AtomsAreBindings, HaveTaskNames, IsSymbolWithin, IsActionWithin, PartsAreNoLonger, text_limit, AcceptedTimeCostsFit, ReadersPromise}

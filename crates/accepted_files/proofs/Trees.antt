@@ -1,7 +1,7 @@
 -- Where no phase finds an offence in a tree, all ground atoms of its bindings are bindings of their predicates.
 use Rattle.std.proofs.Common.{◌≡◌, sym, subst, ◌∙◌, ℕ, Bool, true, false, if◌then◌else◌, List, [], ◌∷◌, ◌++◌, Option, Some, None, ◌==◌}
 use Rattle.std.specs.List.{AllByRecursion as Each, flat_map}
-use Rattle.basics.proofs.Lists.{each_append, nothing_left, nothing_right, nothing_each}
+use Rattle.basics.proofs.Lists.{each_append, nothing_left, nothing_right, nothing_each, each_map}
 use Rattle.pddl_terms.specs.declared.files.Domain.{Domain}
 use Rattle.pddl_terms.specs.declared.files.Problem.{Problem}
 use Rattle.pddl_terms.specs.declared.trees.Atom.{Atom}
@@ -42,7 +42,7 @@ use Rattle.ground_world.specs.Conditions.{Part, Lit, Same, Compares, negated, co
 use Rattle.ground_world.proofs.Walks as world_walk
 use Rattle.grounder.specs.Accepted.{is_binding}
 use Rattle.grounder.specs.Terms.{OfFacts, OfNumbers, part_atoms, formula_atoms, preference_atoms, preference_parts, goal_atoms, constraint_atoms, watched, watched_atoms}
-use Rattle.grounder.proofs.Each.{each_weaker, each_map, each_flat_map}
+use Rattle.grounder.proofs.Each.{each_weaker, each_flat_map}
 use Rattle.grounder.proofs.Inductions.{each_condition, each_formula, each_preference, each_goal, each_constraint}
 use Rattle.grounder.proofs.Walks as walk
 use Rattle.accepted_files.specs.Clean.{TypesAreNamed}

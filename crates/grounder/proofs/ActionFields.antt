@@ -5,7 +5,7 @@ use Rattle.std.specs.List.{AllByRecursion as Each, flat_map, list_any, list_all,
 use Rattle.std.proofs.lemmas.List.{length-map, length-append}
 use Rattle.basics.proofs.Bools.{and_left, and_right, and_in, or_false_left, or_false_right}
 use Rattle.basics.proofs.Naturals.{le_in, le_out}
-use Rattle.basics.proofs.Lists.{all_in}
+use Rattle.basics.proofs.Lists.{all_in, each_map}
 use Rattle.rational.specs.Rational.{ℚ}
 use Rattle.task_types.specs.declared.actions.Action.{Action}
 use Rattle.task_types.specs.declared.actions.Bound.{Bound}
@@ -28,7 +28,7 @@ use Rattle.ground_world.specs.Expressions.{reckoned, form_or_zero}
 use Rattle.grounder.specs.Instances.{Instance, env_of, conditions_of, no_unknowns, assigned_by, is_twice}
 use Rattle.grounder.specs.Task.{Ground, grounding, over_fluents, bound_kinds, bounds, is_durative, snap_of, snaps_of, action_of, numbered_actions, action_snaps, fluent_rates, action_condition}
 use Rattle.grounder.specs.Accepted.{IsAccepted}
-use Rattle.grounder.proofs.Each.{each_weaker, each_both, each_map, each_flat_map, each_number, each_enumerated, each_everywhere}
+use Rattle.grounder.proofs.Each.{each_weaker, each_both, each_flat_map, each_number, each_enumerated, each_everywhere}
 use Rattle.grounder.proofs.FormFacts.{form-ascends}
 use Rattle.grounder.proofs.Kept.{Sound}
 use Rattle.grounder.proofs.Conditions.{IsOver, over_fluents-fits, condition-fits}

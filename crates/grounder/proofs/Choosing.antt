@@ -3,10 +3,10 @@ use Rattle.std.proofs.Common.{◌≡◌, refl, sym, ap, ◌∙◌, ℕ, suc, tru
 use Rattle.std.specs.List.{AllByRecursion as Each, list_any, list_all}
 use Rattle.basics.proofs.Bools.{and_left, and_right, and_in}
 use Rattle.basics.proofs.Naturals.{same_itself, same_out}
-use Rattle.basics.proofs.Lists.{all_out}
+use Rattle.basics.proofs.Lists.{all_out, each_map}
 use Rattle.task_types.specs.WellMade.{is_short, are_below, arguments_fit}
 use Rattle.ground_world.specs.Bindings.{choices}
-use Rattle.grounder.proofs.Each.{each_weaker, each_map, each_flat_map, each_found, any_of_each}
+use Rattle.grounder.proofs.Each.{each_weaker, each_flat_map, each_found, any_of_each}
 
 fit_more : (c : List ℕ) (cs : List (List ℕ)) (o : ℕ) → list_any (λ x. x == o) c ≡ true → Each (λ os. arguments_fit os cs ≡ true) (choices cs)
     → Each (λ os. arguments_fit os (c ∷ cs) ≡ true) (map (λ rest. o ∷ rest) (choices cs))

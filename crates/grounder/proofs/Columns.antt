@@ -11,9 +11,9 @@ use Rattle.pddl_names.proofs.Ways.{same_text}
 use Rattle.task_types.specs.WellMade.{is_short, are_below, arguments_fit}
 use Rattle.ground_world.specs.World.{World, GroundAtom, symbol, arguments}
 use Rattle.ground_world.specs.Bindings.{choices}
-use Rattle.grounder.proofs.Each.{each_weaker, each_map, each_flat_map, each_everywhere, any_of_each}
+use Rattle.grounder.proofs.Each.{each_weaker, each_flat_map, each_everywhere, any_of_each}
 use Rattle.grounder.proofs.Choosing.{choices-fit, fitting-are_below}
-use Rattle.basics.proofs.Lists.{any_left, any_right}
+use Rattle.basics.proofs.Lists.{any_left, any_right, each_map}
 
 module _ (w : World) where
   abbrev pub bound_to : ℕ × Signature → List GroundAtom

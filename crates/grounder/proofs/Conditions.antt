@@ -5,7 +5,7 @@ use Rattle.std.specs.List.{AllByRecursion as Each, flat_map, filter}
 use Rattle.std.proofs.lemmas.List.{length-map}
 use Rattle.basics.proofs.Bools.{and_in}
 use Rattle.basics.proofs.Naturals.{le_in, le_out}
-use Rattle.basics.proofs.Lists.{all_in, all_out, all_left}
+use Rattle.basics.proofs.Lists.{all_in, all_out, all_left, each_map}
 use Rattle.exact_lin.specs.Forms.{LinearForm, IsForm}
 use Rattle.task_types.specs.declared.conditions.Literal.{Literal}
 use Rattle.task_types.specs.declared.parts.TaskParts.{TaskParts}
@@ -23,7 +23,7 @@ use Rattle.grounder.specs.Instances.{Instance, env_of, conditions_of, no_unknown
 use Rattle.grounder.specs.Terms.{part_atoms}
 use Rattle.grounder.specs.Task.{Ground, grounding, fact_atoms, over_fluents, compared, forms_in, literal_of, dynamic_literal, action_condition}
 use Rattle.grounder.specs.Accepted.{is_binding, changed_atoms, IsAccepted}
-use Rattle.grounder.proofs.Each.{each_weaker, each_map, each_flat_map, flat_map_each, each_filter, each_everywhere}
+use Rattle.grounder.proofs.Each.{each_weaker, each_flat_map, flat_map_each, each_filter, each_everywhere}
 use Rattle.grounder.proofs.Placing.{number-within}
 use Rattle.grounder.proofs.Sizes.{weights, all_weights, weights-at, body-counted}
 use Rattle.grounder.proofs.GoalSizes.{length-parts, length-dynamic, length-forms}

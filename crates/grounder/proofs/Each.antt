@@ -1,9 +1,9 @@
 -- Facts of each element of lists that are made of others.
-use Rattle.std.proofs.Common.{◌≡◌, refl, sym, ap, subst, ◌∙◌, ℕ, suc, ◌+◌, ◌≤◌, arith, Bool, true, false, ◌||◌, nat_lt, List, [], ◌∷◌, ◌++◌, map, cond, length, append_assoc}
-use Rattle.std.specs.List.{AllByRecursion as Each, flat_map, filter, enumerate_from, list_any}
+use Rattle.std.proofs.Common.{◌≡◌, refl, sym, ap, subst, ◌∙◌, ℕ, suc, ◌+◌, ◌<◌, ◌≤◌, arith, Bool, true, false, ◌||◌, nat_lt, List, [], ◌∷◌, ◌++◌, map, cond, length, get_or, append_assoc}
+use Rattle.std.specs.List.{AllByRecursion as Each, flat_map, filter, enumerate_from, list_any, list_all}
 use Rattle.basics.proofs.Bools.{or_left}
 use Rattle.basics.proofs.Naturals.{lt_in}
-use Rattle.basics.proofs.Lists.{each_append, each_left, each_right, any_right}
+use Rattle.basics.proofs.Lists.{all_out, each_append, each_at, each_left, each_right, any_right, each_map}
 
 pub each_weaker : {X : Type 0} (P Q : X → Type 0) → ((x : X) → P x → Q x) → (xs : List X) → Each P xs → Each Q xs
 each_weaker P Q f [] h = tt
@@ -12,10 +12,6 @@ each_weaker P Q f (x ∷ xs) h = (f x h.0, each_weaker P Q f xs h.1)
 pub each_both : {X : Type 0} (P Q : X → Type 0) (xs : List X) → Each P xs → Each Q xs → Each (λ x. P x × Q x) xs
 each_both P Q [] h k = tt
 each_both P Q (x ∷ xs) h k = ((h.0, k.0), each_both P Q xs h.1 k.1)
-
-pub each_map : {X Y : Type 0} (P : Y → Type 0) (f : X → Y) (xs : List X) → Each (λ x. P (f x)) xs → Each P (map f xs)
-each_map P f [] h = tt
-each_map P f (x ∷ xs) h = (h.0, each_map P f xs h.1)
 
 pub map_each : {X Y : Type 0} (P : Y → Type 0) (f : X → Y) (xs : List X) → Each P (map f xs) → Each (λ x. P (f x)) xs
 map_each P f [] h = tt
@@ -70,3 +66,7 @@ each_number n m (x ∷ xs) h = (lt_in n m (omega arith), each_number (n + 1) m x
 pub each_enumerated : {X : Type 0} (P : X → Type 0) (n : ℕ) (xs : List X) → Each P xs → Each (λ x. P x.1) (enumerate_from n xs)
 each_enumerated P n [] h = tt
 each_enumerated P n (x ∷ xs) h = (h.0, each_enumerated P (n + 1) xs h.1)
+
+-- each item passes a test that all pass
+pub passes : {X : Type 0} (p : X → Bool) (xs : List X) (i : ℕ) (x : X) → i < length xs → x ≡ get_or xs i x → list_all p xs ≡ true → p x ≡ true
+passes p xs i x lt at h = subst (λ y. p y ≡ true) (sym at) (each_at (λ y. p y ≡ true) xs i x lt (all_out p xs h))

@@ -9,7 +9,7 @@ use Rattle.std.specs.Ordering.{MatchOrdering}
 use Rattle.std.proofs.lemmas.List.{length-map, length-append, map-append}
 use Rattle.basics.proofs.Bools.{and_left, and_right, and_in, or_left, or_right, not_true, or_false_left, or_false_right}
 use Rattle.basics.proofs.Naturals.{le_in, le_out, same_out}
-use Rattle.basics.proofs.Lists.{all_in, all_out, all_right}
+use Rattle.basics.proofs.Lists.{all_in, all_out, all_right, each_map}
 use Rattle.rational.specs.Rational.{zeroℚ, cmp_ℚ, ◌<ℚ◌}
 use Rattle.rational.proofs.Comparisons.{cmp_ranks}
 use Rattle.rational.proofs.Order.{lt_irrefl}
@@ -39,7 +39,7 @@ use Rattle.grounder.specs.Instances.{Instance, env_of, conditions_of, tests_of, 
 use Rattle.grounder.specs.Terms.{part_atoms}
 use Rattle.grounder.specs.Task.{Ground, grounding, fluent_number, amount, added_facts, deleted_facts, assigned_amounts, increased_amounts, effect, fluent_rates}
 use Rattle.grounder.specs.Accepted.{is_binding, changed_atoms, IsAccepted}
-use Rattle.grounder.proofs.Each.{each_weaker, each_map, each_flat_map, flat_map_each, each_filter}
+use Rattle.grounder.proofs.Each.{each_weaker, each_flat_map, flat_map_each, each_filter}
 use Rattle.grounder.proofs.Placing.{number-within}
 use Rattle.grounder.proofs.FormFacts.{form-ascends, negative-ascends}
 use Rattle.grounder.proofs.Kept.{Sound, IsChange}

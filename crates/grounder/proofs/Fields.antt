@@ -5,7 +5,7 @@ use Rattle.std.specs.List.{AllByRecursion as Each, list_all, enumerate_from}
 use Rattle.std.proofs.lemmas.List.{length-map}
 use Rattle.basics.proofs.Bools.{and_left, and_right, and_in}
 use Rattle.basics.proofs.Naturals.{le_in}
-use Rattle.basics.proofs.Lists.{all_in, all_out}
+use Rattle.basics.proofs.Lists.{all_in, all_out, each_map}
 use Rattle.rational.specs.Rational.{ℚ, zeroℚ}
 use Rattle.task_types.specs.declared.actions.Schema.{Schema}
 use Rattle.task_types.specs.declared.parts.Fact.{Fact}
@@ -23,7 +23,7 @@ use Rattle.grounder.specs.Instances.{kept}
 use Rattle.grounder.specs.Terms.{goal_parts}
 use Rattle.grounder.specs.Task.{grounding, fact_atoms, mentioned_atoms, is_durative, numbered_actions, action_snaps, timings, moments, timed_snap, goal_condition, hard_terms, soft_terms, metric, ground_task}
 use Rattle.grounder.specs.Accepted.{is_small, IsAccepted}
-use Rattle.grounder.proofs.Each.{each_weaker, each_map, each_filter}
+use Rattle.grounder.proofs.Each.{each_weaker, each_filter}
 use Rattle.grounder.proofs.Placing.{with_new-each}
 use Rattle.grounder.proofs.Columns.{columns-below}
 use Rattle.grounder.proofs.WorldFacts.{fitting-below, objects-short, facts-below, functions-below}

@@ -5,7 +5,7 @@ use Rattle.std.specs.List.{AllByRecursion as Each, filter}
 use Rattle.std.proofs.lemmas.List.{length-map}
 use Rattle.basics.proofs.Bools.{and_in}
 use Rattle.basics.proofs.Naturals.{lt_out, le_in}
-use Rattle.basics.proofs.Lists.{all_in}
+use Rattle.basics.proofs.Lists.{all_in, each_map}
 use Rattle.std.proofs.lemmas.Int.{ints}
 use Rattle.rational.specs.Rational.{ℚ, zeroℚ, whole, inverse, ◌*ℚ◌, ◌<ℚ◌}
 use Rattle.rational.proofs.Order.{lt_irrefl}
@@ -23,7 +23,6 @@ use Rattle.ground_world.specs.Expressions.{Unknowns, Reckoned, reckoned, added, 
 use Rattle.ground_world.specs.Conditions.{Test, difference_form, difference, forms_of, test_forms}
 use Rattle.ground_world.proofs.Walks as walks
 use Rattle.grounder.proofs.Inductions.{each_expression}
-use Rattle.grounder.proofs.Each.{each_map}
 
 -- ---- how many terms there are
 

@@ -1,7 +1,7 @@
 -- Goals, preferences and constraints: their atoms are those that are mentioned, and their parts are counted.
 use Rattle.std.proofs.Common.{◌≡◌, sym, subst, List, [], ◌∷◌, map, Option}
 use Rattle.std.specs.List.{AllByRecursion as Each, flat_map}
-use Rattle.basics.proofs.Lists.{each_left, each_right}
+use Rattle.basics.proofs.Lists.{each_left, each_right, each_map}
 use Rattle.pddl_terms.specs.declared.trees.Group.{Group}
 use Rattle.pddl_terms.specs.declared.trees.SoftTree.{SoftTree}
 use Rattle.pddl_terms.specs.declared.trees.GoalTree.{GoalTree}
@@ -18,7 +18,7 @@ use Rattle.ground_world.proofs.Walks as below
 use Rattle.grounder.specs.Terms.{preference_parts, part_atoms, preference_atoms, goal_parts, goal_atoms, constraint_atoms, watched, watched_atoms}
 use Rattle.grounder.proofs.Walks as walks
 use Rattle.grounder.proofs.Inductions.{each_goal, each_constraint}
-use Rattle.grounder.proofs.Each.{each_weaker, each_map, each_flat_map, flat_map_each}
+use Rattle.grounder.proofs.Each.{each_weaker, each_flat_map, flat_map_each}
 
 pub each_swap : {X Y : Type 0} (R : X → Y → Type 0) (xs : List X) (ys : List Y) → Each (λ x. Each (R x) ys) xs → Each (λ y. Each (λ x. R x y) xs) ys
 each_swap R xs [] h = tt

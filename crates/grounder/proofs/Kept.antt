@@ -5,7 +5,7 @@ use Rattle.std.proofs.lemmas.List.{length-map, nil_from_length}
 use Rattle.std.proofs.lemmas.List.FromFn.{length-range_with_len}
 use Rattle.std.proofs.lemmas.Bool.Decides.{nat_tests}
 use Rattle.basics.proofs.Bools.{and_left, or_left}
-use Rattle.basics.proofs.Lists.{all_out, any_left, any_right}
+use Rattle.basics.proofs.Lists.{all_out, any_left, any_right, each_map}
 use Rattle.task_types.specs.WellMade.{arguments_fit}
 use Rattle.pddl_terms.specs.declared.files.ActionDef.{ActionDef}
 use Rattle.pddl_terms.specs.declared.files.Domain.{Domain}
@@ -19,7 +19,7 @@ use Rattle.ground_world.specs.Counts.{body_count, bindings_fit, fit_limits}
 use Rattle.ground_world.proofs.Choices.{choices-by_number}
 use Rattle.grounder.specs.Instances.{Instance, instances_of, is_kept, kept}
 use Rattle.grounder.specs.Accepted.{is_small, is_binding, instance_atoms, IsAccepted}
-use Rattle.grounder.proofs.Each.{each_weaker, each_both, each_map, each_flat_map, flat_map_each, each_filter}
+use Rattle.grounder.proofs.Each.{each_weaker, each_both, each_flat_map, flat_map_each, each_filter}
 use Rattle.grounder.proofs.Choosing.{choices-fit}
 
 -- what stands in a list is found there by each test that it passes

@@ -6,7 +6,7 @@ use Rattle.std.proofs.lemmas.Bool.Decides.{nat_tests}
 use Rattle.std.proofs.lemmas.List.{length-map}
 use Rattle.basics.proofs.Bools.{and_left, and_right, and_in}
 use Rattle.basics.proofs.Naturals.{le_in, le_out, lt_out}
-use Rattle.basics.proofs.Lists.{all_in, all_out, filter-shorter, each_append, each_left, each_right}
+use Rattle.basics.proofs.Lists.{all_in, all_out, filter-shorter, each_append, each_left, each_right, each_map}
 use Rattle.rational.specs.Rational.{ℚ, zeroℚ}
 use Rattle.rational.proofs.Inequalities.{le_from_eq}
 use Rattle.exact_lin.specs.Forms.{LinearForm, Terms, IsForm, coefficient, constant_form}
@@ -44,7 +44,7 @@ use Rattle.ground_world.proofs.Walks as below
 use Rattle.grounder.specs.Terms.{PreferencePart, part_atoms, preference_atoms, preference_parts, formulas_in, comparisons_in, formula, formula_atoms, goal_parts, goal_atoms, constraint_atoms, watched, watched_atoms}
 use Rattle.grounder.specs.Task.{grounding, fact_atoms, mentioned_atoms, fact_number, compared, literal_of, goal_forms_in, goal_condition, Timing, timing, timings, moments, literals_at, timed_snap, metric, preference_weight, cost_weight, all_of, goal_soft, trail_of, hard_of, soft_of, soft_cost, hard_terms, soft_terms}
 use Rattle.grounder.specs.Accepted.{is_binding, curve_fits, IsAccepted, weighs_right}
-use Rattle.grounder.proofs.Each.{each_weaker, each_both, each_map, map_each, each_flat_map, flat_map_each, each_filter, each_everywhere}
+use Rattle.grounder.proofs.Each.{each_weaker, each_both, map_each, each_flat_map, flat_map_each, each_filter, each_everywhere}
 use Rattle.grounder.proofs.Placing.{with_new-has}
 use Rattle.grounder.proofs.Stepping.{Rising, rising-with}
 use Rattle.grounder.proofs.FormFacts.{unknown-ascends, form-ascends, negative-ascends}

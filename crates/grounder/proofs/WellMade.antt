@@ -6,7 +6,7 @@ use Rattle.std.proofs.lemmas.List.{length-map, length-append}
 use Rattle.std.proofs.lemmas.List.FromFn.{length-enumerate_from}
 use Rattle.basics.proofs.Bools.{and_in}
 use Rattle.basics.proofs.Naturals.{le_in, same_in}
-use Rattle.basics.proofs.Lists.{all_in, all_append}
+use Rattle.basics.proofs.Lists.{all_in, all_append, each_map}
 use Rattle.rational.specs.Rational.{ℚ, zeroℚ}
 use Rattle.task_types.specs.declared.actions.Action.{Action}
 use Rattle.task_types.specs.declared.actions.Snap.{Snap}
@@ -27,7 +27,7 @@ use Rattle.grounder.specs.Task.{grounding, is_durative, snap_of, fluent_rates, n
 use Rattle.grounder.specs.Answer.{ground_fault, ground_answer}
 use Rattle.grounder.specs.Accepted.{IsAccepted}
 use Rattle.grounder.specs.Laws.{MadeTasksAreWellMade}
-use Rattle.grounder.proofs.Each.{each_map, each_everywhere}
+use Rattle.grounder.proofs.Each.{each_everywhere}
 use Rattle.grounder.proofs.Kept.{Sound, kept-sound}
 use Rattle.grounder.proofs.Stepping.{actions-numbered, snap_total-is, steps-timed, rising-ascends}
 use Rattle.grounder.proofs.Passed.{IsPassed, passed, greatest-each}

@@ -5,7 +5,7 @@ use Rattle.std.proofs.lemmas.List.{length-map}
 use Rattle.std.proofs.lemmas.List.FromFn.{length-enumerate_from}
 use Rattle.basics.proofs.Bools.{and_left, and_right, and_in}
 use Rattle.basics.proofs.Naturals.{le_in, le_out, same_itself}
-use Rattle.basics.proofs.Lists.{all_in, all_out, filter-shorter}
+use Rattle.basics.proofs.Lists.{all_in, all_out, filter-shorter, each_map}
 use Rattle.task_types.specs.WellMade.{is_short, are_below}
 use Rattle.pddl_terms.specs.declared.files.Domain.{Domain}
 use Rattle.pddl_terms.specs.declared.files.Problem.{Problem}
@@ -15,7 +15,7 @@ use Rattle.ground_world.specs.World.{GroundAtom, place_in, symbol, arguments}
 use Rattle.ground_world.specs.FirstState.{types_of, objects_of, signatures_of, world, places_fitting, all_atoms, has_value, changed_predicates, changed_functions, given_value}
 use Rattle.grounder.specs.Task.{fact_atoms, mentioned_atoms}
 use Rattle.grounder.specs.Accepted.{is_binding, IsAccepted}
-use Rattle.grounder.proofs.Each.{each_weaker, each_map, each_filter, each_number, each_enumerated}
+use Rattle.grounder.proofs.Each.{each_weaker, each_filter, each_number, each_enumerated}
 use Rattle.grounder.proofs.Placing.{with_new-keeps, filter-has}
 use Rattle.grounder.proofs.Columns.{bound-passes, atoms-below, value-given}
 use Rattle.grounder.proofs.Kept.{Within}

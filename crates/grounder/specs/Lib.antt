@@ -12,6 +12,10 @@ pub mod ShownQuantified
 pub mod ShownTimings
 pub mod ShownTerms
 pub mod GoalTerms
+pub mod ShownInstances
+pub mod Bindings
+pub mod ShownPieces
+pub mod Building
 pub mod ExampleWords
 pub mod ExampleBindings
 pub mod ExampleFacts

@@ -1,4 +1,4 @@
--- Private: what the code's tables say of the numbers and weights of a ground task.
+-- Believed: what the code's tables say of the numbers and weights of a ground task.
 use Rattle.ground_world.specs.Shown.{world_of}
 use Rattle.ground_world.specs.Readings.{unknowns_of}
 use Rattle.grounder.specs.Task.{Ground}

@@ -4,6 +4,7 @@ ghost use Rattle.std.specs.Prelude.{◌≡◌, min, Some};
 ghost use Rattle.ground_world.specs.World.{either};
 ghost use Rattle.ground_world.specs.Expressions.{wide_places, zero_divisors};
 ghost use Rattle.grounder.specs.Answer.{least};
+ghost use Rattle.grounder.specs.Bindings.{lower};
 
 use ground_world::Flaw;
 
@@ -14,6 +15,16 @@ fn lesser(found: &Option<u32>, place: u32) -> Option<u32>
     match found {
         Some(least) => Some(place.min(*least)),
         None => Some(place),
+    }
+}
+
+/// The lesser of two places, where there are any.
+pub fn lower(one: &Option<u32>, other: &Option<u32>) -> Option<u32>
+    ensures { result ≡ lower one.now other.now }
+{
+    match one {
+        Some(place) => lesser(other, *place),
+        None => *other,
     }
 }
 
