@@ -91,7 +91,7 @@ sorts-length (g ∷ vars) =
     ∙ ap₂ (λ m n. m + n) (length-map g.names (λ n. type_bytes g.of) ∙ sym (length-map {B = Typed} g.names (λ n. (n.bytes, type_bytes g.of)))) (sorts-length vars)
     ∙ sym (length-append (typed_of g) (typed vars))
 
-same_length : (w : World) (vars : List Group) → length (columns w vars) ≡ length (variable_names vars)
+pub same_length : (w : World) (vars : List Group) → length (columns w vars) ≡ length (variable_names vars)
 same_length w vars = length-map (sorts_of vars) w.fitting ∙ sorts-length vars ∙ sym (length-map (typed vars) (λ t. t.0))
 
 pub nested-as_one : NestedAsOne

@@ -1,16 +1,14 @@
 -- The bindings of an action by their numbers: what is found of one, and one more.
 use Rattle.std.proofs.Common.{◌≡◌, refl, sym, ap, ap₂, ◌∙◌, ℕ, suc, ◌+◌, ◌<◌, ◌≤◌, arith, Bool, true, false, not, ◌&&◌, ◌||◌, nat_lt, nat_le, min, List, [], ◌∷◌, ◌++◌, map, length, take, get_or, append_assoc, Option, Some, None}
-use Rattle.std.specs.Prelude.{if◌then◌else◌}
 use Rattle.std.specs.List.{flat_map, filter}
-use Rattle.std.proofs.lemmas.List.{map-append, append-nil, length-append, length-map}
+use Rattle.std.proofs.lemmas.List.{map-append, append-nil}
 use Rattle.std.proofs.lemmas.List.Elements.{filter-append}
 use Rattle.std.proofs.lemmas.List.Concat.{flat_map-append}
 use Rattle.basics.proofs.Naturals.{lt_in, le_out}
 use Rattle.basics.proofs.Bools.{and_left, and_right}
 use Rattle.task_types.proofs.Places.{numbers-more}
 use Rattle.pddl_terms.specs.declared.files.ActionDef.{ActionDef}
-use Rattle.pddl_terms.specs.declared.trees.Group.{Group}
-use Rattle.pddl_names.specs.Declarations.{Text, Typed, type_bytes, typed, typed_of, sorts_of}
+use Rattle.pddl_names.specs.Declarations.{Text}
 use Rattle.ground_world.specs.World.{World, Env, either, columns, variable_names}
 use Rattle.ground_world.specs.Bindings.{numbers, choice_count, choice_at, paired}
 use Rattle.ground_world.specs.Changes.{Staged, Change, body_changes}
@@ -19,6 +17,7 @@ use Rattle.ground_world.specs.Counts.{body_count, fit_limits, part_limit}
 use Rattle.ground_world.specs.Shown as shown
 use Rattle.ground_world.specs.declared.binding.Bound.{Bound}
 use Rattle.ground_world.proofs.Choices.{choices-by_number}
+use Rattle.ground_world.proofs.NestedChoices.{same_length}
 use Rattle.ground_world.proofs.Steps.{taken}
 use Rattle.grounder.specs.Answer.{least}
 use Rattle.ground_world.specs.Expressions.{reckoned, wide_places, zero_divisors}
@@ -53,19 +52,6 @@ lower-none (Some p) = refl
 length-choice_at : (cs : List (List ℕ)) (k : ℕ) → length (choice_at cs k) ≡ length cs
 length-choice_at [] k = refl
 length-choice_at (c ∷ cs) k = ap suc (length-choice_at cs _)
-
-sorts-named : (gs : List Group) → length (sorts_of gs) ≡ length (typed gs)
-sorts-named [] = refl
-sorts-named (g ∷ gs) =
-    length-append (map (λ n. type_bytes g.of) g.names) (sorts_of gs)
-    ∙ ap₂ (λ m n. m + n) (length-map g.names (λ n. type_bytes g.of) ∙ sym (length-map g.names (λ n. pair n.bytes (type_bytes g.of)))) (sorts-named gs)
-    ∙ sym (length-append (typed_of g) (typed gs))
-  where
-    pair : Text → Text → Typed
-    pair n t = (n, t)
-
-same_length : (w : World) (vars : List Group) → length (columns w vars) ≡ length (variable_names vars)
-same_length w vars = length-map (sorts_of vars) w.fitting ∙ sorts-named vars ∙ sym (length-map (typed vars) (λ t. t.0))
 
 objects-paired : (ns : List Text) (os : List ℕ) → length os ≡ length ns → map (λ b. b.1) (paired ns os) ≡ os
 objects-paired [] [] h = refl

@@ -20,8 +20,7 @@ pub grown : {X Z : Type 0} (whole : List X → List Z) (own : X → List Z)
     → ((xs : List X) (x : X) → whole (xs ++ (x ∷ [])) ≡ whole xs ++ own x)
     → (before after : List Z) (xs : List X) (i : ℕ) (x : X) → i < length xs → x ≡ get_or xs i x
     → before ≡ whole (take i xs) → after ≡ before ++ own x → after ≡ whole (take (i + 1) xs)
-grown whole own more before after xs i x lt at h k =
-    k ∙ ap (λ l. l ++ own x) h ∙ sym (more (take i xs) x) ∙ ap whole (sym (taken xs i x lt at))
+grown whole own more before after = pushed whole own more [] before after
 
 -- the items of a list, each of which gives several
 pub flat_map-more : {X Y Z : Type 0} (f : Y → List Z) (g : X → Y) (xs : List X) (x : X)

@@ -94,24 +94,12 @@ pub fn trail<'a>(
             one_formula(alloc, grounding, env, TrailKind::AtMostOnce, first, zero)
         }
         Trajectory::SometimeAfter(_, first, second) => {
-            two_formulas(
-                alloc,
-                grounding,
-                env,
-                TrailKind::SometimeAfter,
-                first,
-                second,
-            )
+            let kind = TrailKind::SometimeAfter;
+            two_formulas(alloc, grounding, env, kind, first, second)
         }
         Trajectory::SometimeBefore(_, first, second) => {
-            two_formulas(
-                alloc,
-                grounding,
-                env,
-                TrailKind::SometimeBefore,
-                first,
-                second,
-            )
+            let kind = TrailKind::SometimeBefore;
+            two_formulas(alloc, grounding, env, kind, first, second)
         }
         Trajectory::AtEnd(_, first) => {
             one_formula(alloc, grounding, env, TrailKind::AtEnd, first, zero)
