@@ -32,6 +32,7 @@ mod quantified;
 mod quantifying;
 mod rates;
 mod reckonings;
+mod tasks;
 #[cfg(test)]
 mod tests;
 mod timings;
@@ -45,3 +46,4 @@ pub use grounding::Grounding;
 pub use instances::Instance;
 pub use judging::{KeptInstances, kept_instances};
 pub use limits::limit_fault;
+pub use tasks::ground;
