@@ -10,6 +10,8 @@ pub mod Reach
 pub mod ShownPreferences
 pub mod ShownQuantified
 pub mod ShownTimings
+pub mod Blocks
+pub mod ShownBlocks
 pub mod ShownTerms
 pub mod GoalTerms
 pub mod ShownInstances
