@@ -24,6 +24,7 @@ pub mod TrailSteps
 pub mod LeafSteps
 pub mod ChangingBlocks
 pub mod FactSteps
+pub mod NameSteps
 pub mod Passed
 pub mod WorldFacts
 pub mod Conditions

@@ -12,6 +12,7 @@ pub mod ShownQuantified
 pub mod ShownTimings
 pub mod Blocks
 pub mod ShownBlocks
+pub mod PlainParts
 pub mod ShownTerms
 pub mod GoalTerms
 pub mod ShownInstances
