@@ -17,7 +17,7 @@ use Rattle.pddl_terms.specs.declared.files.TimeCost.{TimeCost}
 use Rattle.pddl_names.specs.Declarations.{Text, among, with_new}
 use Rattle.pddl_names.proofs.Doubling.{with_new-append}
 use Rattle.ground_world.specs.World.{World, GroundAtom, either}
-use Rattle.ground_world.specs.FirstState.{world, types_of, objects_of, signatures_of, names_of, all_atoms}
+use Rattle.ground_world.specs.FirstState.{world, types_of, objects_of, all_atoms}
 use Rattle.ground_world.specs.Leaves.{Cost, constraint_leaves, cost_of}
 use Rattle.ground_world.specs.Counts.{bindings_fit, goal_count, formula_count, fit_limits, part_limit}
 use Rattle.ground_world.proofs.FluentOrder.{column-sorted}
@@ -111,10 +111,6 @@ module _ (w : World) (d : Domain) (p : Problem) where
       let l : length (all_atoms w (λ x. not (w.is_static x)) d.predicates) ≤ length (with_new (all_atoms w (λ x. not (w.is_static x)) d.predicates) (mentioned_atoms w d p))
       = new-longer (all_atoms w (λ x. not (w.is_static x)) d.predicates) (mentioned_atoms w d p) in
       omega arith
-
-pub world-names : (w : World) (d : Domain) (p : Problem) → w ≡ world d p → w.predicates ≡ names_of (signatures_of d.predicates)
-unfolding world
-world-names w d p e = ap (λ (x : World). x.predicates) e
 
 pub world-ascending : (w : World) (d : Domain) (p : Problem) → w ≡ world d p → (s : Text) → IsStrictlySortedBy nat_cmp (w.fitting s)
 unfolding world

@@ -54,6 +54,10 @@ pub world-objects : (d : Domain) (p : Problem) → (world d p).objects ≡ names
 unfolding world
 world-objects d p = refl
 
+pub world-predicates : (w : World) (d : Domain) (p : Problem) → w ≡ world d p → w.predicates ≡ names_of (signatures_of d.predicates)
+unfolding world
+world-predicates w d p e = ap (λ (x : World). x.predicates) e
+
 pub world-functions : (w : World) (d : Domain) (p : Problem) → w ≡ world d p → w.functions ≡ names_of (signatures_of d.functions)
 unfolding world
 world-functions w d p e = ap (λ (x : World). x.functions) e

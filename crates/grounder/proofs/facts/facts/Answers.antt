@@ -4,12 +4,13 @@ use Rattle.pddl_terms.specs.declared.files.Declared.{Declared}
 use Rattle.ground_world.specs.World.{GroundAtom}
 use Rattle.ground_world.specs.FirstState.{all_atoms, names_of, signatures_of}
 use Rattle.ground_world.specs.Shown.{world_of}
-use Rattle.grounder.proofs.FactSteps.{world-names, world-ascending, facts-are, facts-many}
+use Rattle.grounder.proofs.FactSteps.{world-ascending, facts-are, facts-many}
+use Rattle.grounder.proofs.NameSteps.{world-predicates}
 use Rattle.grounder.proofs.facts.facts.Goals as goal
 
 pub changing_atoms-requires-clause-names : goal.changing_atoms-requires-clause-names
 changing_atoms-requires-clause-names c =
-    world-names (world_of c.args.tables.now) c.args.domain.now c.args.problem.now c.requires.world ∙ ap (λ (l : List Declared). names_of (signatures_of l)) (sym c.as_slice.ensures)
+    world-predicates (world_of c.args.tables.now) c.args.domain.now c.args.problem.now c.requires.world ∙ ap (λ (l : List Declared). names_of (signatures_of l)) (sym c.as_slice.ensures)
 
 pub changing_atoms-requires-clause-ascending : goal.changing_atoms-requires-clause-ascending
 changing_atoms-requires-clause-ascending c = world-ascending (world_of c.args.tables.now) c.args.domain.now c.args.problem.now c.requires.world
