@@ -22,6 +22,9 @@ pub mod Asking
 pub mod ConstraintSteps
 pub mod TrailSteps
 pub mod LeafSteps
+pub mod ChangingBlocks
+pub mod FactSteps
+pub mod NameSteps
 pub mod Passed
 pub mod WorldFacts
 pub mod Conditions

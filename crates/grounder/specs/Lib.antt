@@ -10,6 +10,9 @@ pub mod Reach
 pub mod ShownPreferences
 pub mod ShownQuantified
 pub mod ShownTimings
+pub mod Blocks
+pub mod ShownBlocks
+pub mod PlainParts
 pub mod ShownTerms
 pub mod GoalTerms
 pub mod ShownInstances
