@@ -12,6 +12,8 @@ pub mod ShownQuantified
 pub mod ShownTimings
 pub mod ShownTerms
 pub mod GoalTerms
+pub mod Units
+pub mod ShownUnits
 pub mod ShownInstances
 pub mod Bindings
 pub mod ShownPieces
