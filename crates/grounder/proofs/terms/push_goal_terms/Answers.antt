@@ -1,4 +1,4 @@
-use Rattle.std.proofs.Common.{◌≡◌, ◌≤◌, sym, ap, ap₂, subst, ◌∙◌, List, [], ◌++◌, map}
+use Rattle.std.proofs.Common.{◌≤◌, sym, ap, ap₂, subst, ◌∙◌, List, [], ◌++◌, map}
 use Rattle.std.specs.Borrow.{Bor}
 use Rattle.rational.specs.Rational.{ℚ}
 use Rattle.pddl_terms.specs.declared.trees.Group.{Group}

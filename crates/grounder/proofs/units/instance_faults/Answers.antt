@@ -1,4 +1,4 @@
-use Rattle.std.proofs.Common.{◌≡◌, ◌≤◌, sym, ap, ap₂, subst, ◌∙◌, List, [], ◌∷◌, map, take}
+use Rattle.std.proofs.Common.{◌≤◌, sym, ap, ap₂, subst, ◌∙◌, List, [], ◌∷◌, map, take}
 use Rattle.std.specs.Borrow.{Bor}
 use Rattle.std.specs.List.{flat_map}
 use Rattle.pddl_terms.specs.declared.trees.Group.{Group}
