@@ -45,6 +45,8 @@ pub mod Twice
 pub mod ActionNumbers
 pub mod BuildingSteps
 pub mod BindingSteps
+pub mod UnitSteps
+pub mod TermSteps
 pub mod PieceLists
 pub mod Pairing
 pub mod Judged

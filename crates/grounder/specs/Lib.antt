@@ -15,6 +15,8 @@ pub mod ShownBlocks
 pub mod PlainParts
 pub mod ShownTerms
 pub mod GoalTerms
+pub mod Units
+pub mod ShownUnits
 pub mod ShownInstances
 pub mod Bindings
 pub mod ShownPieces
