@@ -1,6 +1,7 @@
 pub mod Changed
 pub mod Changing
 pub mod Failing
+pub mod Filling
 pub mod FormSteps
 pub mod InTime
 pub mod Keeping

@@ -1,6 +1,7 @@
 pub mod Answers
 pub mod Carrying
 pub mod Entries
+pub mod ExampleTask
 pub mod Laws
 pub mod Ledgers
 pub mod Moving

@@ -11,6 +11,8 @@ mod nexts;
 mod rates;
 mod running;
 mod snaps;
+#[cfg(test)]
+mod tests;
 mod whens;
 
 pub use ledgers::Ledger;
