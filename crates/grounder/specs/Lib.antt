@@ -25,3 +25,8 @@ pub mod ExampleFaults
 pub mod ExampleLimits
 pub mod ExampleActions
 pub mod ExampleTerms
+pub mod Units
+pub mod ShownUnits
+pub mod PlainParts
+pub mod Grounded
+pub mod FaultSteps
