@@ -1,7 +1,7 @@
 -- Which fault grounding tells: the first, in the order in which they are looked for.
 use Rattle.std.proofs.Common.{◌≡◌, refl, sym, ap, ◌∙◌, ℕ, ◌<◌, ◌≤◌, arith, Bool, true, false, nat_le, List, [], ◌∷◌, ◌++◌, map, length, Option, Some, None, Result, Ok, Err}
 use Rattle.std.specs.Prelude.{if◌then◌else◌}
-use Rattle.std.specs.List.{AllByRecursion as Each}
+use Rattle.std.specs.List.{AllByRecursion as Each, flat_map}
 use Rattle.std.proofs.lemmas.List.{length-map}
 use Rattle.std.proofs.lemmas.Bool.Decides.{nat_tests}
 use Rattle.task_types.specs.declared.parts.TaskParts.{TaskParts}
@@ -13,9 +13,9 @@ use Rattle.ground_world.specs.Counts.{bindings_fit}
 use Rattle.grounder.specs.declared.faults.LimitName.TheVariants as limit
 use Rattle.grounder.specs.declared.faults.GroundFault.{GroundFault}
 use Rattle.grounder.specs.declared.faults.GroundFault.TheVariants as fault
-use Rattle.grounder.specs.Instances.{kept}
+use Rattle.grounder.specs.Instances.{kept, wide_in_actions}
 use Rattle.grounder.specs.Task.{fact_atoms, ground_task, grounding}
-use Rattle.grounder.specs.Answer.{Counted, first_fault, ground_answer, ground_fault, limits, past}
+use Rattle.grounder.specs.Answer.{Counted, at_place, first_fault, ground_answer, ground_fault, limits, none_in, past, units, wide_in}
 use Rattle.grounder.specs.FaultSteps.{count_fault, limit_fault, value_fault}
 use Rattle.grounder.proofs.Passed.{kept-limit, none-each}
 use Rattle.grounder.proofs.Each.{map_each}
@@ -65,9 +65,16 @@ too_many task h = count-told task (fault.Limit limit.Facts) (by (nat_le (length 
 -- ---- the answer
 
 module _ (d : Domain) (p : Problem) where
+  -- the faults that have a place
+  abbrev with_place : List (Option GroundFault)
+  with_place = at_place fault.Wide (wide_in_actions (world d p) d.actions)
+      ∷ at_place fault.Wide (flat_map (wide_in (world d p)) (units (world d p) d p))
+      ∷ at_place fault.NoValue (flat_map (none_in (world d p)) (units (world d p) d p))
+      ∷ []
+
   pub bindings-answer : bindings_fit (world d p) d p ≡ false → ground_answer d p ≡ Err (fault.Limit limit.Bindings)
   unfolding ground_answer ground_fault
-  bindings-answer h = by (bindings_fit (world d p) d p) h _
+  bindings-answer h = by (bindings_fit (world d p) d p) h (with_place ++ map past (limits (ground_task d p)))
     where
       by : (b : Bool) → b ≡ false → (fs : List (Option GroundFault))
           → either (Ok (ground_task d p)) (λ f. Err f) (first_fault ((if b then None else Some (fault.Limit limit.Bindings)) ∷ fs)) ≡ Err (fault.Limit limit.Bindings)
@@ -77,7 +84,7 @@ module _ (d : Domain) (p : Problem) where
   module _ (fit : bindings_fit (world d p) d p ≡ true) where
     fault-within : ground_fault d p ≡ either (limit_fault (ground_task d p)) (λ x. Some x) (value_fault (world d p) d p)
     unfolding ground_fault
-    fault-within = by (bindings_fit (world d p) d p) fit _ ∙ first-append _ (map past (limits (ground_task d p)))
+    fault-within = by (bindings_fit (world d p) d p) fit (with_place ++ map past (limits (ground_task d p))) ∙ first-append with_place (map past (limits (ground_task d p)))
       where
         by : (b : Bool) → b ≡ true → (fs : List (Option GroundFault)) → first_fault ((if b then None else Some (fault.Limit limit.Bindings)) ∷ fs) ≡ first_fault fs
         by true e fs = refl

@@ -58,3 +58,4 @@ pub mod BindingLimits
 pub mod FewSteps
 pub mod FaultOrder
 pub mod TaskFields
+pub mod GroundingParts
