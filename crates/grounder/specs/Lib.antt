@@ -10,8 +10,13 @@ pub mod Reach
 pub mod ShownPreferences
 pub mod ShownQuantified
 pub mod ShownTimings
+pub mod Blocks
+pub mod ShownBlocks
+pub mod PlainParts
 pub mod ShownTerms
 pub mod GoalTerms
+pub mod Units
+pub mod ShownUnits
 pub mod ShownInstances
 pub mod Bindings
 pub mod ShownPieces
@@ -25,8 +30,5 @@ pub mod ExampleFaults
 pub mod ExampleLimits
 pub mod ExampleActions
 pub mod ExampleTerms
-pub mod Units
-pub mod ShownUnits
-pub mod PlainParts
 pub mod Grounded
 pub mod FaultSteps

@@ -1,11 +1,12 @@
-//! STAND-IN: contracts alone, until the proved module is merged.
+//! The metric of the task: what a plan costs but for the soft terms.
 
 ghost use Rattle.std.specs.Prelude.{◌≡◌, IfOk};
 ghost use Rattle.grounder.specs.ShownGrounding.{ground_of};
 ghost use Rattle.grounder.specs.Task.{metric};
 
+use crate::fluent_forms::fluent_terms;
 use crate::grounding::Grounding;
-use exact_lin::NoMemory;
+use exact_lin::{FluentId, Id, NoMemory};
 use std::alloc::Global;
 use task_types::Metric;
 
@@ -13,5 +14,11 @@ use task_types::Metric;
 pub fn task_metric(alloc: Global, grounding: &Grounding) -> Result<Metric, NoMemory>
     ensures { IfOk result (λ m. m ≡ metric (ground_of grounding.now)) }
 {
-    Err(NoMemory)
+    let own = FluentId::of(grounding.tables.fluents.len() as u32);
+    let fluents = fluent_terms(alloc, grounding, &grounding.cost)?;
+    Ok(Metric {
+        constant: grounding.cost.constant(),
+        last: grounding.cost.coefficient(own),
+        fluents,
+    })
 }
