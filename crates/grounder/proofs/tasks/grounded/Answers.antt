@@ -1,4 +1,4 @@
-use Rattle.std.proofs.Common.{◌≡◌, ◌≤◌, sym, ap, subst, ◌∙◌, true, List}
+use Rattle.std.proofs.Common.{◌≡◌, ◌≤◌, sym, ap, ap₂, subst, ◌∙◌, true, List}
 use Rattle.std.specs.List.{list_all}
 use Rattle.pddl_terms.specs.declared.files.ActionDef.{ActionDef}
 use Rattle.ground_world.specs.World.{World, columns}
@@ -9,6 +9,7 @@ use Rattle.ground_world.specs.Leaves.{goal_preferences}
 use Rattle.ground_world.specs.Readings.{unknowns_of}
 use Rattle.ground_world.specs.Shown.{world_of}
 use Rattle.grounder.specs.Instances.{kept}
+use Rattle.grounder.specs.ShownInstances.{all_of}
 use Rattle.grounder.specs.Reach.{preference_fits}
 use Rattle.grounder.proofs.BindingLimits.{actions-within, goal-within, preferences-within}
 use Rattle.grounder.proofs.FaultOrder.{value-answer}
@@ -36,13 +37,21 @@ unit_fault-requires-clause-preferences c =
 
 pub returns-in-Some : goal.returns-in-Some
 returns-in-Some c =
-    sym (value-answer c.args.domain.now c.args.problem.now c.requires.fit c.in-Some.fault
-    (sym (value_fault-is c.args.domain.now c.args.problem.now (world_of c.args.grounding.now.tables) (unknowns_of c.args.grounding.now.names) c.as_slice.result.now c.in_ok-found.found.wide
+    let d = c.args.domain.now in
+    let p = c.args.problem.now in
+    sym (value-answer d p c.requires.fit c.in-Some.fault
+    (sym (value_fault-is d p (world_of c.args.grounding.now.tables) (unknowns_of c.args.grounding.now.names) c.as_slice.result.now c.in_ok-found.found.wide
     (ap (λ g. g.world) c.requires.ground) (ap (λ g. g.unknowns) c.requires.ground) c.as_slice.ensures c.in_ok-found.ensures.wide)
-    ∙ ?))
+    ∙ sym c.in_ok-fault.ensures ∙ c.in-Some.is))
 
 pub limited-requires-clause-instances : goal.limited-requires-clause-instances
-limited-requires-clause-instances c = ?
+limited-requires-clause-instances c = ap all_of c.as_slice-2.ensures ∙ c.in_ok-found.ensures.instances
+    ∙ ap₂ (λ (w : World) (xs : List ActionDef). kept w xs) (ap (λ g. g.world) c.requires.ground) c.as_slice.ensures
 
 pub limited-requires-clause-values : goal.limited-requires-clause-values
-limited-requires-clause-values c = ?
+limited-requires-clause-values c =
+    let d = c.args.domain.now in
+    let p = c.args.problem.now in
+    sym (value_fault-is d p (world_of c.args.grounding.now.tables) (unknowns_of c.args.grounding.now.names) c.as_slice.result.now c.in_ok-found.found.wide
+    (ap (λ g. g.world) c.requires.ground) (ap (λ g. g.unknowns) c.requires.ground) c.as_slice.ensures c.in_ok-found.ensures.wide)
+    ∙ sym c.in_ok-fault.ensures ∙ c.in-None.is
