@@ -1,5 +1,6 @@
 -- What the parts of the task are numbered and weighed by, and the faults with a place, from the tables of code.
-use Rattle.std.proofs.Common.{◌≡◌, refl, ap, ◌∙◌, ℕ, List, [], Option}
+use Rattle.std.proofs.Common.{◌≡◌, refl, sym, ap, subst, ◌∙◌, ℕ, ◌<◌, ◌≤◌, List, [], length, Option, Some, None}
+use Rattle.std.specs.Prelude.{MatchOption}
 use Rattle.exact_lin.specs.Forms.{LinearForm}
 use Rattle.pddl_terms.specs.declared.files.ActionDef.{ActionDef}
 use Rattle.pddl_terms.specs.declared.files.Domain.{Domain}
@@ -39,3 +40,13 @@ module _ (d : Domain) (p : Problem) where
       ∙ ap (λ (x : Unknowns). unit_fault w (least (wide_in_actions w d.actions)) (problem_units w x p.goal (goal_preferences p.goal) p.metric)) b
       ∙ ap (λ us. unit_fault w (least (wide_in_actions w d.actions)) us) (units-are w)
       ∙ ap (λ (x : World). unit_fault x (least (wide_in_actions x d.actions)) (units x d p)) a
+
+-- the facts where they are not too many, and that they are where none are given
+module _ (all : List GroundAtom) (found : Option (List GroundAtom)) (h : MatchOption found (16384 < length all) (λ facts. (facts ≡ all) × (length all ≤ 16384))) where
+  pub facts-given : (facts : List GroundAtom) → found ≡ Some facts → (facts ≡ all) × (length facts ≤ 16384)
+  facts-given facts e =
+      let told = subst (λ (o : Option (List GroundAtom)). MatchOption o (16384 < length all) (λ own. (own ≡ all) × (length all ≤ 16384))) e h in
+      (told.0, subst (λ (own : List GroundAtom). length own ≤ 16384) (sym told.0) told.1)
+
+  pub facts-many : found ≡ None → 16384 < length all
+  facts-many e = subst (λ (o : Option (List GroundAtom)). MatchOption o (16384 < length all) (λ own. (own ≡ all) × (length all ≤ 16384))) e h

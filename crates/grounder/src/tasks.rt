@@ -177,7 +177,8 @@ fn parts_or_fault(
     ensures { IfOk result (λ answer. answer ≡ ground_answer domain.now problem.now) }
 {
     let tables = world_tables(alloc, domain, problem)?;
-    if !bindings_fit(alloc, &tables, domain, problem)? {
+    let fit = bindings_fit(alloc, &tables, domain, problem)?;
+    if !fit {
         return Ok(Err(GroundFault::Limit(LimitName::Bindings)));
     }
     within_bindings(alloc, tables, domain, problem)

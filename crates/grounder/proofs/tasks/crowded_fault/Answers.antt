@@ -31,14 +31,14 @@ returns-in-Some c =
     value-answer d p (subst (λ (w : World). bindings_fit w d p ≡ true) c.requires.world c.requires.fit) c.in-Some.fault
     (sym (value_fault-is d p (world_of c.args.tables.now) (unknowns_of c.args.names.now) c.as_slice.result.now c.in_ok-found.found.wide
     c.requires.world c.requires.names c.as_slice.ensures c.in_ok-found.ensures.wide)
-    ∙ sym c.in_ok-unit_fault.ensures ∙ c.in-Some.is)
+    ∙ sym c.in_ok-fault.ensures ∙ c.in-Some.is)
 
-pub returns-in-None : goal.returns-in-None
-returns-in-None c =
+pub returns : goal.returns
+returns c =
     let d = c.args.domain.now in
     let p = c.args.problem.now in
     crowded-answer d p (subst (λ (w : World). bindings_fit w d p ≡ true) c.requires.world c.requires.fit)
     (sym (value_fault-is d p (world_of c.args.tables.now) (unknowns_of c.args.names.now) c.as_slice.result.now c.in_ok-found.found.wide
     c.requires.world c.requires.names c.as_slice.ensures c.in_ok-found.ensures.wide)
-    ∙ sym c.in_ok-unit_fault.ensures ∙ c.in-None.is)
+    ∙ sym c.in_ok-fault.ensures ∙ c.in-None.is)
     (subst (λ (w : World). 16384 < length (fact_atoms w d p)) c.requires.world c.requires.many)
