@@ -59,3 +59,8 @@ pub mod ExampleFaults
 pub mod ExampleLimits
 pub mod ExampleActions
 pub mod ExampleTerms
+pub mod BindingLimits
+pub mod FewSteps
+pub mod FaultOrder
+pub mod TaskFields
+pub mod GroundingParts

@@ -30,3 +30,5 @@ pub mod ExampleFaults
 pub mod ExampleLimits
 pub mod ExampleActions
 pub mod ExampleTerms
+pub mod Grounded
+pub mod FaultSteps

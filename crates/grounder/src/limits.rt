@@ -8,8 +8,8 @@ ghost use Rattle.grounder.specs.Answer.{past, first_fault, limits, greatest, is_
 use crate::faults::{GroundFault, LimitName};
 use task_types::{Action, Soft, TaskParts, TrailKind};
 
-// The fault of a count that is past its limit.
-fn past(name: LimitName, count: usize, most: usize) -> Option<GroundFault>
+/// The fault of a count that is past its limit.
+pub(crate) fn past(name: LimitName, count: usize, most: usize) -> Option<GroundFault>
     ensures { result ≡ past (record { name = name; count = count; most = most }) }
 {
     if count <= most {
@@ -19,8 +19,8 @@ fn past(name: LimitName, count: usize, most: usize) -> Option<GroundFault>
     }
 }
 
-// The first of two faults.
-fn first_of(one: Option<GroundFault>, other: Option<GroundFault>) -> Option<GroundFault>
+/// The first of two faults.
+pub(crate) fn first_of(one: Option<GroundFault>, other: Option<GroundFault>) -> Option<GroundFault>
     ensures { result ≡ either other (λ fault. Some fault) one }
 {
     match one {
