@@ -2,6 +2,7 @@ pub mod Instances
 pub mod Terms
 pub mod Task
 pub mod Answer
+pub mod Grounded
 pub mod Accepted
 pub mod Laws
 pub mod ShownGrounding
@@ -30,5 +31,4 @@ pub mod ExampleFaults
 pub mod ExampleLimits
 pub mod ExampleActions
 pub mod ExampleTerms
-pub mod Grounded
 pub mod FaultSteps

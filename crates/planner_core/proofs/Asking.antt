@@ -1,17 +1,12 @@
 -- What words ask for.
-use Rattle.std.proofs.Common.{◌≡◌, ℕ, List, Option, Some, None, lit<, arith, subst, sym, ap, pos}
-use Rattle.std.proofs.lemmas.Int.{ints}
-use Rattle.rational.specs.Rational.{ℚ, zeroℚ, ◌<ℚ◌, ratio}
-use Rattle.rational.proofs.Order.{positive_in}
+use Rattle.std.proofs.Common.{◌≡◌, ℕ, List, Option, Some, None, ap}
 use Rattle.outside.specs.Fetching.{DeskView}
 use Rattle.command_words.specs.Grammar.{Text}
-use Rattle.command_words.specs.Values.{IsNumberGiven}
 use Rattle.command_words.specs.Requests.{Asked, Asks as WordsAsk, Validate as validate_asked, Schedule as schedule_asked, FileNames}
 use Rattle.command_words.specs.declared.requests.Limits.{Limits}
 use Rattle.command_words.proofs.One.{one_request}
 use Rattle.planner_core.specs.Replies.{Said}
 use Rattle.planner_core.specs.Works.{Request, Validate, AskFor, AreFor, work_of}
-use Rattle.planner_core.specs.Words.{limits_of}
 use Rattle.planner_core.specs.Sessions.{Came, CameByWords}
 
 -- ---- one request
@@ -38,19 +33,6 @@ one_form files other limits other_limits pivots leaves e = cc
 pub only_schedule : (words : List Text) (files : FileNames) (limits : Limits) (pivots leaves : ℕ) → WordsAsk words (schedule_asked files limits pivots leaves) → AreFor words None
 only_schedule words files limits pivots leaves asked (Validate other other_limits) also =
     one_form other files other_limits limits pivots leaves (one_request words (validate_asked other other_limits) (schedule_asked files limits pivots leaves) also asked)
-
--- ---- limits
-
-usual_epsilon : zeroℚ <ℚ ratio (pos 1) 1000
-usual_epsilon = positive_in (pos 1) 1000 (lit< tt) (omega (arith, ints))
-
-given_positive : (top : ℚ) (text : Option Text) (q : ℚ) → IsNumberGiven (ratio (pos 1) 1000) top text q → zeroℚ <ℚ q
-given_positive top None q e = subst (λ (x : ℚ). zeroℚ <ℚ x) (sym e) usual_epsilon
-given_positive top (Some text) q given = given.above_zero
-
--- the least distance that words set is above 0
-pub epsilon_is_positive : (words : List Text) (request : Request) → AskFor words request → zeroℚ <ℚ (limits_of request).epsilon
-epsilon_is_positive words (Validate files limits) asked = given_positive _ _ limits.epsilon asked.sets.1.epsilon
 
 -- ---- work
 

@@ -7,15 +7,15 @@ use Rattle.outside.specs.Putting.{SinkView, sink_with}
 use Rattle.outside.specs.declared.desk.Fetch.TheVariants.{Failed, Long, Memory}
 use Rattle.outside.specs.declared.desk.TheConstants.{LONGEST_FILE}
 use Rattle.command_words.specs.declared.requests.Limits.{Limits}
-use Rattle.first_path.specs.declared.model.Rules.{Rules}
+use Rattle.task_types.specs.declared.parts.Rules.{Rules}
 use Rattle.planner_core.specs.declared.status.Status.{Status}
 use Rattle.planner_core.specs.declared.status.Status.TheVariants.{ReadFault}
 use Rattle.planner_core.specs.declared.reply.Role.{Role}
 use Rattle.planner_core.specs.declared.reply.Role.TheVariants.{Domain, Problem, Plan}
 use Rattle.planner_core.specs.Replies.{Said, read_fault}
-use Rattle.planner_core.specs.Answers.{Answer as TextsAnswer, IsAnswer, rules_of, said_of, Validates}
-use Rattle.planner_core.specs.Works.{Work, Ends, Asks, Request, Validate, AskFor, AreFor, work_of}
-use Rattle.planner_core.specs.Sessions.{AreAnswers, IsReply, LedTo, LedByWords, Delivered}
+use Rattle.planner_core.specs.Answers.{rules_of, said_of, Validates}
+use Rattle.planner_core.specs.Works.{Work, Ends, Asks, Request, Validate, AreFor, work_of}
+use Rattle.planner_core.specs.Sessions.{AreAnswers, IsReply, LedTo, Delivered}
 use Rattle.planner_core.specs.Headline.{AreFetched}
 use Rattle.planner_core.specs.Laws.{Told, AnswersAreTold}
 use Rattle.planner_core.proofs.Asking.{one_asked}
@@ -99,18 +99,19 @@ reply_told words files desk desk_now said limits domain problem plan None told a
 reply_told words files desk desk_now said limits domain problem plan (Some request) told are asked led =
     told_by request words files desk desk_now said limits domain problem plan told are (one_asked words (Validate are.names limits) request are.asked asked) led
 
-said_same : (rules : Rules) (domain problem plan : List ℕ) (said : Said) (answer : TextsAnswer) → IsAnswer rules domain problem plan answer → Validates rules domain problem plan said → said ≡ said_of answer
-said_same rules domain problem plan said answer right is = is.told ∙ ap said_of (answer_one rules domain problem plan is.answer answer is.right right)
+said_same : (rules : Rules) (domain problem plan : List ℕ) (said other : Said) → Validates rules domain problem plan said → Validates rules domain problem plan other → said ≡ other
+said_same rules domain problem plan said other is also =
+    same_Some said other (sym is.told ∙ (ap said_of (answer_one rules domain problem plan is.answer also.answer is.right also.right) ∙ also.told))
 
-ended : (rules : Rules) (domain problem plan : List ℕ) (said : Said) (answer : TextsAnswer) (sink sink_now : SinkView) (status : Status) → IsAnswer rules domain problem plan answer
-    → Faulted said ⊎ Validates rules domain problem plan said → Delivered said status sink sink_now → Told answer sink sink_now status
-ended rules domain problem plan said answer sink sink_now status right (inl e) (inl d) = inl (d.0 ∙ e)
-ended rules domain problem plan said answer sink sink_now status right (inr is) (inl d) =
-    let same : said ≡ said_of answer = said_same rules domain problem plan said answer right is in
+ended : (rules : Rules) (domain problem plan : List ℕ) (said right : Said) (sink sink_now : SinkView) (status : Status) → Validates rules domain problem plan right
+    → Faulted said ⊎ Validates rules domain problem plan said → Delivered said status sink sink_now → Told right sink sink_now status
+ended rules domain problem plan said right sink sink_now status is (inl e) (inl d) = inl (d.0 ∙ e)
+ended rules domain problem plan said right sink sink_now status is (inr also) (inl d) =
+    let same : said ≡ right = said_same rules domain problem plan said right also is in
     inr (inr (d.0 ∙ ap (λ (s : Said). s.status) same, d.1 ∙ ap (λ (s : Said). sink_with sink s.text) same))
-ended rules domain problem plan said answer sink sink_now status right reply (inr d) = inr (inl d.0)
+ended rules domain problem plan said right sink sink_now status is reply (inr d) = inr (inl d.0)
 
 pub answers_told : AnswersAreTold
-answers_told words files desk desk_now sink sink_now status limits domain problem plan answer told are right ran =
-    ended (rules_of limits) domain problem plan ran.said answer sink sink_now status right
+answers_told words files desk desk_now sink sink_now status limits domain problem plan said told are right ran =
+    ended (rules_of limits) domain problem plan ran.said said sink sink_now status right
     (reply_told words files desk desk_now ran.said limits domain problem plan ran.led.request told are ran.led.asked ran.led.led) ran.delivered

@@ -1,19 +1,21 @@
 -- A verdict is printed only where the files hold such a plan.
-use Rattle.std.proofs.Common.{◌≡◌, ◌++◌, ℕ, List, [], ◌∷◌, codes, Option, Some, None, Ok, Err, refl, sym, subst, ap}
-use Rattle.rational.specs.Rational.{ℚ}
+use Rattle.std.proofs.Common.{◌≡◌, ℕ, List, [], ◌∷◌, Option, Some, None, Ok, Err, sym, ◌∙◌, subst, ap}
+use Rattle.std.proofs.lemmas.Option.{same_Some}
 use Rattle.outside.specs.Fetching.{Files, Answer, MayAnswer, DeskView}
 use Rattle.outside.specs.Putting.{SinkView, sink_with}
 use Rattle.outside.specs.declared.desk.Fetch.TheVariants.{Failed, Long, Memory}
-use Rattle.plan_text.specs.Numbers.{number_text}
 use Rattle.command_words.specs.declared.requests.Limits.{Limits}
-use Rattle.first_path.specs.declared.model.Rules.{Rules}
-use Rattle.first_path.specs.declared.model.Undefined.TheVariants.{Line, Happening}
-use Rattle.first_path.specs.declared.model.Verdict.TheVariants.{Valid, Invalid}
+use Rattle.task_types.specs.declared.parts.Rules.{Rules}
+use Rattle.plan_files.specs.declared.faults.LineKind.{LineKind}
+use Rattle.plan_files.specs.declared.faults.LineKind.TheVariants as line
+use Rattle.plan_validator.specs.declared.verdicts.Verdict.TheVariants.{Valid, Invalid}
+use Rattle.reply_text.specs.Verdicts.{valid_text}
 use Rattle.planner_core.specs.declared.status.Status.{Status}
 use Rattle.planner_core.specs.declared.status.Status.TheVariants.{Done, Negative, Usage, Refused, Budget, ReadFault, WriteFault, NoMemory}
-use Rattle.planner_core.specs.declared.reply.Role.TheVariants.{Domain, Problem, Plan}
 use Rattle.planner_core.specs.Replies.{Said, usage, read_fault, too_long}
-use Rattle.planner_core.specs.Answers.{Answer as TextsAnswer, Unbuilt, Wide, Decided, IsAnswer, rules_of, said_of, Validates}
+use Rattle.planner_core.specs.Validations.{line_status, wide_said, verdict_said}
+use Rattle.planner_core.specs.Answers.{Answer as TextsAnswer, DomainRefused, ProblemRefused, GroundRefused, PlanRefused, WideAt, Decided, IsAnswer, rules_of, said_of, Validates}
+use Rattle.planner_core.proofs.Answered.{said_with-status, told-status}
 use Rattle.planner_core.specs.Works.{Work, Ends, Asks, Request, Validate, AreFor, work_of}
 use Rattle.planner_core.specs.Sessions.{AreAnswers, IsReply, LedByWords}
 use Rattle.planner_core.specs.Headline.{AreFetched, TellsValid, TellsInvalid, Printed}
@@ -104,36 +106,66 @@ NotNegative ReadFault = Unit {0}
 NotNegative WriteFault = Unit {0}
 NotNegative NoMemory = Unit {0}
 
-valid_answer : (rules : Rules) (domain problem plan : List ℕ) (answer : TextsAnswer) → IsAnswer rules domain problem plan answer → (said_of answer).status ≡ Done → TellsValid rules domain problem plan (said_of answer).text
-valid_answer rules domain problem plan (Unbuilt Domain) is e = absurd (subst NotDone e tt)
-valid_answer rules domain problem plan (Unbuilt Problem) is e = absurd (subst NotDone e tt)
-valid_answer rules domain problem plan (Unbuilt Plan) is e = absurd (subst NotDone e tt)
-valid_answer rules domain problem plan (Wide number Line) is e = absurd (subst NotDone e tt)
-valid_answer rules domain problem plan (Wide number (Happening k)) is e = absurd (subst NotDone e tt)
-valid_answer rules domain problem plan (Decided number (Valid c)) (task, (line, (read, (reckoned, (valid, same))))) e =
-    let text : ℚ → List ℕ = λ x. codes "valid cost " ++ number_text x ++ codes "\n" in
-    record { task = task; number = number; line = line; read = read; valid = valid; told = ap text same }
-valid_answer rules domain problem plan (Decided number (Invalid reason)) is e = absurd (subst NotDone e tt)
+done_apart : (status : Status) (said : Said) → said.status ≡ status → NotDone status → said.status ≡ Done → ⊥
+done_apart status said e not done = subst NotDone (sym e ∙ done) not
 
-invalid_answer : (rules : Rules) (domain problem plan : List ℕ) (answer : TextsAnswer) → IsAnswer rules domain problem plan answer → (said_of answer).status ≡ Negative → TellsInvalid rules domain problem plan (said_of answer).text
-invalid_answer rules domain problem plan (Unbuilt Domain) is e = absurd (subst NotNegative e tt)
-invalid_answer rules domain problem plan (Unbuilt Problem) is e = absurd (subst NotNegative e tt)
-invalid_answer rules domain problem plan (Unbuilt Plan) is e = absurd (subst NotNegative e tt)
-invalid_answer rules domain problem plan (Wide number Line) is e = absurd (subst NotNegative e tt)
-invalid_answer rules domain problem plan (Wide number (Happening k)) is e = absurd (subst NotNegative e tt)
-invalid_answer rules domain problem plan (Decided number (Valid c)) is e = absurd (subst NotNegative e tt)
-invalid_answer rules domain problem plan (Decided number (Invalid reason)) (task, (line, (read, (reckoned, first)))) e =
-    record { task = task; number = number; line = line; reason = reason; read = read; first = first; told = refl }
+negative_apart : (status : Status) (said : Said) → said.status ≡ status → NotNegative status → said.status ≡ Negative → ⊥
+negative_apart status said e not negative = subst NotNegative (sym e ∙ negative) not
+
+line_not-done : (kind : LineKind) → NotDone (line_status kind)
+line_not-done line.Shape = tt
+line_not-done line.Number = tt
+line_not-done line.Name = tt
+line_not-done line.Unground = tt
+line_not-done (line.Order f) = tt
+line_not-done line.Limit = tt
+line_not-done line.Wide = tt
+
+line_not-negative : (kind : LineKind) → NotNegative (line_status kind)
+line_not-negative line.Shape = tt
+line_not-negative line.Number = tt
+line_not-negative line.Name = tt
+line_not-negative line.Unground = tt
+line_not-negative (line.Order f) = tt
+line_not-negative line.Limit = tt
+line_not-negative line.Wide = tt
+
+valid_answer : (rules : Rules) (domain problem plan : List ℕ) (answer : TextsAnswer) (said : Said) → IsAnswer rules domain problem plan answer → said_of answer ≡ Some said → said.status ≡ Done → TellsValid rules domain problem plan said.text
+valid_answer rules domain problem plan (DomainRefused f) said is t e = absurd (done_apart _ said (said_with-status _ _ said t) tt e)
+valid_answer rules domain problem plan (ProblemRefused f) said is t e = absurd (done_apart _ said (said_with-status _ _ said t) tt e)
+valid_answer rules domain problem plan (GroundRefused f) said is t e = absurd (done_apart _ said (said_with-status _ _ said t) tt e)
+valid_answer rules domain problem plan (PlanRefused n kind) said is t e = absurd (done_apart _ said (said_with-status _ _ said t) (line_not-done kind) e)
+valid_answer rules domain problem plan (WideAt k) said is t e = absurd (done_apart _ said (told-status (wide_said k) said t) tt e)
+valid_answer rules domain problem plan (Decided (Valid c)) said (task, (lines, (read, h))) t e = record {
+  task = task;
+  lines = lines;
+  read = read;
+  valid = h.1;
+  told = sym (ap (λ (s : Said). s.text) (same_Some (verdict_said (Valid c)) said t)) ∙ ap valid_text h.3;
+}
+valid_answer rules domain problem plan (Decided (Invalid reason)) said is t e = absurd (done_apart _ said (told-status (verdict_said (Invalid reason)) said t) tt e)
+
+invalid_answer : (rules : Rules) (domain problem plan : List ℕ) (answer : TextsAnswer) (said : Said) → IsAnswer rules domain problem plan answer → said_of answer ≡ Some said → said.status ≡ Negative → TellsInvalid rules domain problem plan said.text
+invalid_answer rules domain problem plan (DomainRefused f) said is t e = absurd (negative_apart _ said (said_with-status _ _ said t) tt e)
+invalid_answer rules domain problem plan (ProblemRefused f) said is t e = absurd (negative_apart _ said (said_with-status _ _ said t) tt e)
+invalid_answer rules domain problem plan (GroundRefused f) said is t e = absurd (negative_apart _ said (said_with-status _ _ said t) tt e)
+invalid_answer rules domain problem plan (PlanRefused n kind) said is t e = absurd (negative_apart _ said (said_with-status _ _ said t) (line_not-negative kind) e)
+invalid_answer rules domain problem plan (WideAt k) said is t e = absurd (negative_apart _ said (told-status (wide_said k) said t) tt e)
+invalid_answer rules domain problem plan (Decided (Valid c)) said is t e = absurd (negative_apart _ said (told-status (verdict_said (Valid c)) said t) tt e)
+invalid_answer rules domain problem plan (Decided (Invalid reason)) said (task, (lines, (read, h))) t e = record {
+  task = task;
+  lines = lines;
+  reason = reason;
+  read = read;
+  first = h.1;
+  told = sym (ap (λ (s : Said). s.text) (same_Some (verdict_said (Invalid reason)) said t));
+}
 
 tells_valid : (rules : Rules) (domain problem plan : List ℕ) (said : Said) → said.status ≡ Done → Validates rules domain problem plan said → TellsValid rules domain problem plan said.text
-tells_valid rules domain problem plan said e is =
-    let P : Said → Type 0 = λ s. s.status ≡ Done → TellsValid rules domain problem plan s.text in
-    subst P (sym is.told) (valid_answer rules domain problem plan is.answer is.right) e
+tells_valid rules domain problem plan said e is = valid_answer rules domain problem plan is.answer said is.right is.told e
 
 tells_invalid : (rules : Rules) (domain problem plan : List ℕ) (said : Said) → said.status ≡ Negative → Validates rules domain problem plan said → TellsInvalid rules domain problem plan said.text
-tells_invalid rules domain problem plan said e is =
-    let P : Said → Type 0 = λ s. s.status ≡ Negative → TellsInvalid rules domain problem plan s.text in
-    subst P (sym is.told) (invalid_answer rules domain problem plan is.answer is.right) e
+tells_invalid rules domain problem plan said e is = invalid_answer rules domain problem plan is.answer said is.right is.told e
 
 printed : (Tells : Claim) (words : List (List ℕ)) (files : Option Files) (sink sink_now : SinkView) (text : List ℕ) → Told Tells words files text → sink_now ≡ sink_with sink text → Printed Tells words files sink sink_now
 printed Tells words files sink sink_now text told e = record {

@@ -1,9 +1,9 @@
 pub mod Led
 pub mod Asking
-pub mod Statuses
-pub mod Fields
-pub mod PlanFiles
 pub mod Answered
+pub mod Statuses
 pub mod Headlines
+pub mod Steps
+pub mod Stages
 pub mod OneAnswer
 pub mod Exact

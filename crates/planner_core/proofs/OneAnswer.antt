@@ -1,95 +1,105 @@
 -- Three texts have one right answer at most.
-use Rattle.std.proofs.Common.{◌≡◌, ℕ, List, refl, sym, ap, ap₂, subst}
-use Rattle.first_path.specs.declared.model.Task.{Task}
-use Rattle.first_path.specs.declared.model.PlanLine.{PlanLine}
-use Rattle.first_path.specs.declared.model.Rules.{Rules}
-use Rattle.first_path.specs.declared.model.Verdict.{Verdict}
-use Rattle.first_path.specs.declared.model.Undefined.{Undefined}
-use Rattle.first_path.specs.declared.domains.Domain.{Domain as DomainRead}
-use Rattle.first_path.specs.Laws.{SameDomain}
-use Rattle.first_path.specs.Validity.{IsRight}
+use Rattle.std.proofs.Common.{◌≡◌, ℕ, List, sym, ◌∙◌, ap, Result, Ok, Err}
 use Rattle.basics.proofs.Duties.{AllMet-no_first, first_unmet-one}
-use Rattle.exact_lin.specs.Reckoning.{wide_limit}
-use Rattle.exact_lin.specs.Reckonings.{AllDefined, IsFirstUndefined, place_duties}
-use Rattle.first_path.specs.Course.{course}
-use Rattle.first_path.proofs.DomainUniqueness.{domain-one}
-use Rattle.first_path.proofs.TaskUniqueness.{task-one}
-use Rattle.first_path.proofs.SameProblem.{of_same}
-use Rattle.first_path.proofs.Uniqueness.{verdicts-one}
-use Rattle.planner_core.specs.declared.reply.Role.{Role}
-use Rattle.planner_core.specs.declared.reply.Role.TheVariants.{Domain, Problem, Plan}
-use Rattle.planner_core.specs.PlanFile.{IsPlanFile}
-use Rattle.planner_core.specs.Answers.{AreRead, IsUnread, Answer, Unbuilt, Wide, Decided, IsAnswer}
-use Rattle.planner_core.proofs.PlanFiles.{one_plan_file}
+use Rattle.pddl_terms.specs.declared.files.Domain.{Domain}
+use Rattle.pddl_terms.specs.declared.files.Problem.{Problem}
+use Rattle.pddl_domain.specs.Domains.{wrong_domain, domain_told}
+use Rattle.pddl_domain.specs.Readings.{domain_refusal}
+use Rattle.pddl_domain.proofs.Joining.{one_tree, one_fault, no_fault}
+use Rattle.pddl_problem.specs.Problems.{wrong_problem, problem_told}
+use Rattle.pddl_problem.specs.Readings.{problem_refusal}
+use Rattle.grounder.specs.declared.faults.GroundFault.{GroundFault}
+use Rattle.task_types.specs.declared.parts.Rules.{Rules}
+use Rattle.task_types.specs.declared.parts.TaskParts.{TaskParts}
+use Rattle.task_types.specs.Plan.{Plan}
+use Rattle.timed_meaning.specs.declared.faults.MeaningFault.{MeaningFault}
+use Rattle.timed_meaning.specs.declared.faults.MeaningFault.TheVariants.{Wide, Memory}
+use Rattle.plan_files.specs.Lines.{written_lines}
+use Rattle.plan_files.specs.PlanFiles.{duties_from}
+use Rattle.plan_files.proofs.LineDuties.{plans-one}
+use Rattle.plan_validator.specs.declared.verdicts.Verdict.{Verdict}
+use Rattle.plan_validator.proofs.OneAnswer.{one_answer}
+use Rattle.planner_core.specs.Answers.{DomainRefused, ProblemRefused, GroundRefused, WideAt, IsAnswer}
+use Rattle.planner_core.specs.Steps.{ReadDomain, ReadProblem, Ground, ReadPlan, Judge, IsDecided, OfPlan, refused_plan, OfTask, OfFiles, OfDomain, OfTexts}
+use Rattle.planner_core.proofs.Stages.{IsFunctional, AreOne, after_one}
+use Rattle.planner_core.proofs.Steps.{to_steps}
 
--- what is read of three texts
-record SameRead (t u : Task) (n m : ℕ) (l k : PlanLine) : Type 0 where
-  task : t ≡ u
-  number : n ≡ m
-  line : l ≡ k
+-- ---- each of them comes to one thing
 
-plan_of_same : (plan : List ℕ) (d e : DomainRead) → SameDomain d e → (n : ℕ) (l : PlanLine) → IsPlanFile e.action.items plan n l → IsPlanFile d.action.items plan n l
-plan_of_same plan d e s n l p = subst (λ (action : List ℕ). IsPlanFile action plan n l) (sym s.same_action) p
+domain_functional : (text : List ℕ) → IsFunctional (ReadDomain text)
+domain_functional text = record {
+  made = one_tree wrong_domain domain_told domain_refusal text;
+  fault = one_fault wrong_domain domain_told domain_refusal text;
+  apart = no_fault wrong_domain domain_told domain_refusal text;
+}
 
-read_one : (domain problem plan : List ℕ) (t u : Task) (n m : ℕ) (l k : PlanLine) → AreRead domain problem plan t n l → AreRead domain problem plan u m k → SameRead t u n m l k
-read_one domain problem plan t u n m l k x y =
-    let s : SameDomain x.read y.read = domain-one domain x.read y.read x.task_made.domain_read y.task_made.domain_read in
-    let one : (n ≡ m) × (l ≡ k) = one_plan_file x.read.action.items plan n m l k x.plan_read (plan_of_same plan x.read y.read s m k y.plan_read) in
-    record {
-      task = task-one problem x.read t u x.task_made.problem_read (of_same problem x.read y.read s u y.task_made.problem_read);
-      number = one.0;
-      line = one.1;
-    }
+problem_functional : (d : Domain) (text : List ℕ) → IsFunctional (ReadProblem d text)
+problem_functional d text = record {
+  made = one_tree wrong_problem problem_told (problem_refusal d) text;
+  fault = one_fault wrong_problem problem_told (problem_refusal d) text;
+  apart = no_fault wrong_problem problem_told (problem_refusal d) text;
+}
 
-unread_not_read : (domain problem plan : List ℕ) (role : Role) (t : Task) (n : ℕ) (l : PlanLine) → IsUnread domain problem plan role → AreRead domain problem plan t n l → ⊥
-unread_not_read domain problem plan Domain t n l h x = h x.read x.task_made.domain_read
-unread_not_read domain problem plan Problem t n l (read, (is, none)) x =
-    none t (of_same problem read x.read (domain-one domain read x.read is x.task_made.domain_read) t x.task_made.problem_read)
-unread_not_read domain problem plan Plan t n l (read, (task, (made, none))) x =
-    none n l (plan_of_same plan read x.read (domain-one domain read x.read made.domain_read x.task_made.domain_read) n l x.plan_read)
+task_in : TaskParts → Result TaskParts GroundFault → TaskParts
+task_in other (Ok task) = task
+task_in other (Err f) = other
 
-unread_one : (domain problem plan : List ℕ) (r s : Role) → IsUnread domain problem plan r → IsUnread domain problem plan s → r ≡ s
-unread_one domain problem plan Domain Domain h k = refl
-unread_one domain problem plan Domain Problem h (read, (is, none)) = absurd (h read is)
-unread_one domain problem plan Domain Plan h (read, (task, (made, none))) = absurd (h read made.domain_read)
-unread_one domain problem plan Problem Domain (read, (is, none)) k = absurd (k read is)
-unread_one domain problem plan Problem Problem h k = refl
-unread_one domain problem plan Problem Plan (read, (is, none)) (other, (task, (made, _))) =
-    absurd (none task (of_same problem read other (domain-one domain read other is made.domain_read) task made.problem_read))
-unread_one domain problem plan Plan Domain (read, (task, (made, none))) k = absurd (k read made.domain_read)
-unread_one domain problem plan Plan Problem (other, (task, (made, _))) (read, (is, none)) =
-    absurd (none task (of_same problem read other (domain-one domain read other is made.domain_read) task made.problem_read))
-unread_one domain problem plan Plan Plan h k = refl
+fault_in : GroundFault → Result TaskParts GroundFault → GroundFault
+fault_in other (Ok task) = other
+fault_in other (Err f) = f
 
-wide_one : (rules : Rules) (t u : Task) (n m : ℕ) (l k : PlanLine) (p q : Undefined) → SameRead t u n m l k → IsFirstUndefined wide_limit (course rules t l) p → IsFirstUndefined wide_limit (course rules u k) q → Wide n p ≡ Wide m q
-wide_one rules t u n m l k p q same h j =
-    let other : IsFirstUndefined wide_limit (course rules t l) q = subst (λ (x : Task). IsFirstUndefined wide_limit (course rules x l) q) (sym same.task)
-    (subst (λ (x : PlanLine). IsFirstUndefined wide_limit (course rules u x) q) (sym same.line) j) in
-    ap₂ Wide same.number (first_unmet-one (place_duties wide_limit (course rules t l)) p q h other)
+ground_functional : (d : Domain) (p : Problem) → IsFunctional (Ground d p)
+unfolding task_in fault_in
+ground_functional d p = record {
+  made = λ x y h k. ap (task_in x) (sym h ∙ k);
+  fault = λ f g h k. ap (fault_in f) (sym h ∙ k);
+  apart = λ x f h k. let e : ◌≡◌ {A = Result TaskParts GroundFault} (Ok x) (Err f) = sym h ∙ k in cc;
+}
 
-decided_one : (rules : Rules) (t u : Task) (n m : ℕ) (l k : PlanLine) (v w : Verdict) → SameRead t u n m l k → IsRight rules t l v → IsRight rules u k w → Decided n v ≡ Decided m w
-decided_one rules t u n m l k v w same h j =
-    let other : IsRight rules t l w = subst (λ (x : Task). IsRight rules x l w) (sym same.task)
-    (subst (λ (x : PlanLine). IsRight rules u x w) (sym same.line) j) in
-    ap₂ Decided same.number (verdicts-one rules t l v w h other)
+plan_functional : (task : TaskParts) (text : List ℕ) → IsFunctional (ReadPlan task text)
+plan_functional task text = record {
+  made = λ p q s t. plans-one task (written_lines text) p q s.tells t.tells;
+  fault = first_unmet-one (duties_from task 0 (written_lines text));
+  apart = λ p f s. AllMet-no_first (duties_from task 0 (written_lines text)) f s.met;
+}
 
-not_both : (rules : Rules) (t u : Task) (n m : ℕ) (l k : PlanLine) (p : Undefined) → SameRead t u n m l k → IsFirstUndefined wide_limit (course rules t l) p → AllDefined wide_limit (course rules u k) → ⊥
-not_both rules t u n m l k p same h j =
-    let other : AllDefined wide_limit (course rules t l) = subst (λ (x : Task). AllDefined wide_limit (course rules x l)) (sym same.task)
-    (subst (λ (x : PlanLine). AllDefined wide_limit (course rules u x)) (sym same.line) j) in
-    AllMet-no_first (place_duties wide_limit (course rules t l)) p other h
+verdict_in : Verdict → Result Verdict MeaningFault → Verdict
+verdict_in other (Ok v) = v
+verdict_in other (Err f) = other
 
-pub answer_one : (rules : Rules) (domain problem plan : List ℕ) (a b : Answer) → IsAnswer rules domain problem plan a → IsAnswer rules domain problem plan b → a ≡ b
-answer_one rules domain problem plan (Unbuilt r) (Unbuilt s) h k = ap Unbuilt (unread_one domain problem plan r s h k)
-answer_one rules domain problem plan (Unbuilt r) (Wide m q) h (u, (k, (y, _))) = absurd (unread_not_read domain problem plan r u m k h y)
-answer_one rules domain problem plan (Unbuilt r) (Decided m w) h (u, (k, (y, _))) = absurd (unread_not_read domain problem plan r u m k h y)
-answer_one rules domain problem plan (Wide n p) (Unbuilt s) (t, (l, (x, _))) k = absurd (unread_not_read domain problem plan s t n l k x)
-answer_one rules domain problem plan (Decided n v) (Unbuilt s) (t, (l, (x, _))) k = absurd (unread_not_read domain problem plan s t n l k x)
-answer_one rules domain problem plan (Wide n p) (Wide m q) (t, (l, (x, h))) (u, (k, (y, j))) =
-    wide_one rules t u n m l k p q (read_one domain problem plan t u n m l k x y) h j
-answer_one rules domain problem plan (Wide n p) (Decided m w) (t, (l, (x, h))) (u, (k, (y, (j, _)))) =
-    absurd (not_both rules t u n m l k p (read_one domain problem plan t u n m l k x y) h j)
-answer_one rules domain problem plan (Decided n v) (Wide m q) (t, (l, (x, (h, _)))) (u, (k, (y, j))) =
-    absurd (not_both rules u t m n k l q (read_one domain problem plan u t m n k l y x) j h)
-answer_one rules domain problem plan (Decided n v) (Decided m w) (t, (l, (x, (_, h)))) (u, (k, (y, (_, j)))) =
-    decided_one rules t u n m l k v w (read_one domain problem plan t u n m l k x y) h j
+happening_in : ℕ → Result Verdict MeaningFault → ℕ
+happening_in other (Ok v) = other
+happening_in other (Err (Wide k)) = k
+happening_in other (Err Memory) = other
+
+judge_functional : (rules : Rules) (task : TaskParts) (plan : Plan) → IsFunctional (Judge rules task plan)
+unfolding verdict_in happening_in
+judge_functional rules task plan = record {
+  made = λ v w h k. ap (verdict_in v) (one_answer task rules plan (Ok v) (Ok w) tt tt h k);
+  fault = λ j k h u. ap (happening_in j) (one_answer task rules plan (Err (Wide j)) (Err (Wide k)) tt tt h u);
+  apart = λ v k h u. let e : ◌≡◌ {A = Result Verdict MeaningFault} (Ok v) (Err (Wide k)) = one_answer task rules plan (Ok v) (Err (Wide k)) tt tt h u in cc;
+}
+
+-- ---- step by step
+
+verdicts_one : (v : Verdict) → AreOne (IsDecided v)
+verdicts_one v a b h k = h ∙ sym k
+
+module _ (rules : Rules) (domain problem text : List ℕ) where
+  of_plan_one : (task : TaskParts) (plan : Plan) → AreOne (OfPlan rules task plan)
+  of_plan_one task plan = after_one (Judge rules task plan) WideAt IsDecided (judge_functional rules task plan) verdicts_one
+
+  of_task_one : (task : TaskParts) → AreOne (OfTask rules text task)
+  of_task_one task = after_one (ReadPlan task text) refused_plan (OfPlan rules task) (plan_functional task text) (of_plan_one task)
+
+  of_files_one : (d : Domain) (p : Problem) → AreOne (OfFiles rules text d p)
+  of_files_one d p = after_one (Ground d p) GroundRefused (OfTask rules text) (ground_functional d p) of_task_one
+
+  of_domain_one : (d : Domain) → AreOne (OfDomain rules problem text d)
+  of_domain_one d = after_one (ReadProblem d problem) ProblemRefused (OfFiles rules text d) (problem_functional d problem) (of_files_one d)
+
+  of_texts_one : AreOne (OfTexts rules domain problem text)
+  of_texts_one = after_one (ReadDomain domain) DomainRefused (OfDomain rules problem text) (domain_functional domain) of_domain_one
+
+  pub answer_one : AreOne (IsAnswer rules domain problem text)
+  answer_one a b h k = of_texts_one a b (to_steps rules domain problem text a h) (to_steps rules domain problem text b k)

@@ -1,78 +1,85 @@
 -- Believed: what is answered to a domain, a problem and a plan.
-use Rattle.std.specs.Prelude.{◌≡◌, ℕ, List}
+use Rattle.std.specs.Prelude.{◌≡◌, ℕ, List, Option, Some, Ok, Err}
 use Rattle.command_words.specs.declared.requests.Limits.{Limits}
-use Rattle.first_path.specs.declared.model.Task.{Task}
-use Rattle.first_path.specs.declared.model.PlanLine.{PlanLine}
-use Rattle.first_path.specs.declared.model.Rules.{Rules}
-use Rattle.first_path.specs.declared.domains.Domain.{Domain as DomainRead}
-use Rattle.first_path.specs.DomainText.{IsDomain}
-use Rattle.first_path.specs.Problem.{IsProblem}
-use Rattle.first_path.specs.Validity.{IsRight}
-use Rattle.exact_lin.specs.Reckoning.{wide_limit}
-use Rattle.exact_lin.specs.Reckonings.{AllDefined, IsFirstUndefined}
-use Rattle.first_path.specs.Course.{course}
-use Rattle.planner_core.specs.declared.reply.Role.{Role}
-use Rattle.planner_core.specs.declared.reply.Role.TheVariants.{Domain, Problem, Plan}
-use Rattle.first_path.specs.declared.model.Undefined.{Undefined}
-use Rattle.first_path.specs.declared.model.Verdict.{Verdict}
-use Rattle.planner_core.specs.Replies.{Said}
-use Rattle.planner_core.specs.Validations.{unbuilt_said, undefined_said, verdict_said}
-use Rattle.planner_core.specs.PlanFile.{IsPlanFile}
+use Rattle.pddl_terms.specs.declared.faults.PddlFault.{PddlFault}
+use Rattle.pddl_terms.specs.declared.files.Domain.{Domain}
+use Rattle.pddl_terms.specs.declared.files.Problem.{Problem}
+use Rattle.pddl_domain.specs.Readings.{IsDomain, IsDomainFault}
+use Rattle.pddl_problem.specs.Readings.{IsProblem, IsProblemFault}
+use Rattle.grounder.specs.declared.faults.GroundFault.{GroundFault}
+use Rattle.grounder.specs.Answer.{ground_answer}
+use Rattle.task_types.specs.declared.parts.Rules.{Rules}
+use Rattle.task_types.specs.declared.parts.TaskParts.{TaskParts}
+use Rattle.task_types.specs.Plan.{Plan}
+use Rattle.plan_files.specs.declared.faults.LineKind.{LineKind}
+use Rattle.plan_files.specs.PlanFiles.{IsPlanFile, IsRefusedAt}
+use Rattle.plan_validator.specs.declared.verdicts.Verdict.{Verdict}
+use Rattle.plan_validator.specs.Verdicts.{IsWideAt, Validates as Judges}
+use Rattle.planner_core.specs.declared.reply.Role.TheVariants as role
+use Rattle.planner_core.specs.Replies.{Said, role_word}
+use Rattle.planner_core.specs.Validations.{pddl_said, ground_said, line_said, wide_said, verdict_said}
 
--- what is answered to three texts; the plan's line has this number in its file
+-- what is answered to three texts: the fault of the first step of the work that has one, or the verdict on the plan
 pub data Answer : Type 0 where
-  -- the file is not one of those that are read so far
-  Unbuilt : Role → Answer
-  -- a number of the plan's course passes 128 bits
-  Wide : (number : ℕ) → Undefined → Answer
-  -- the plan is valid or not
-  Decided : (number : ℕ) → Verdict → Answer
+  DomainRefused : PddlFault → Answer
+  ProblemRefused : PddlFault → Answer
+  -- the domain and the problem have no ground task
+  GroundRefused : GroundFault → Answer
+  -- the plan file is refused at a line, or the end of a line passes 128 bits
+  PlanRefused : (line : ℕ) → LineKind → Answer
+  -- something that the course of the plan reckons passes 128 bits
+  WideAt : (happening : ℕ) → Answer
+  Decided : Verdict → Answer
 
 -- the least distance and the latest time that the words set
 abbrev pub rules_of : Limits → Rules
 rules_of limits = record { epsilon = limits.epsilon; horizon = limits.horizon }
 
--- The domain and the problem make this task.
-pub record MakeTask (domain problem : List ℕ) (read : DomainRead) (task : Task) : Type 0 where
-  pub domain_read : IsDomain domain read
-  pub problem_read : IsProblem problem read task
+-- The texts are those of a domain and of a problem of it.
+pub record AreFiles (domain_text problem_text : List ℕ) (domain : Domain) (problem : Problem) : Type 0 where
+  pub domain_read : IsDomain domain_text domain
+  pub problem_read : IsProblem domain problem_text problem
 
--- The texts are those of this task and of a plan with this line, which has this number in its file.
-pub record AreRead (domain problem plan : List ℕ) (task : Task) (number : ℕ) (line : PlanLine)
-    : Type 0 where
-  pub read : DomainRead
-  pub task_made : MakeTask domain problem read task
-  pub plan_read : IsPlanFile read.action.items plan number line
+-- They make this ground task.
+pub record MakeTask (domain_text problem_text : List ℕ) (task : TaskParts) : Type 0 where
+  pub domain : Domain
+  pub problem : Problem
+  pub files : AreFiles domain_text problem_text domain problem
+  pub ground : ground_answer domain problem ≡ Ok task
 
--- the file of this role is the first that is not read
-abbrev pub IsUnread : List ℕ → List ℕ → List ℕ → Role → Type 0
-IsUnread domain problem plan Domain = (read : DomainRead) → ¬ (IsDomain domain read)
-IsUnread domain problem plan Problem =
-    (read : DomainRead) × (IsDomain domain read × ((task : Task) → ¬ (IsProblem problem read task)))
-IsUnread domain problem plan Plan =
-    (read : DomainRead) × ((task : Task) × (MakeTask domain problem read task
-    × ((number : ℕ) (line : PlanLine) → ¬ (IsPlanFile read.action.items plan number line))))
+-- They make this ground task, and the third is that of this plan.
+pub record AreRead (domain_text problem_text plan_text : List ℕ) (task : TaskParts) (plan : Plan) : Type 0 where
+  pub made : MakeTask domain_text problem_text task
+  pub plan_read : IsPlanFile task plan_text plan
 
--- what is answered is right under these rules: the first file that is not read, the first undefined place of the plan's
--- course, or the verdict on the plan
-abbrev pub IsAnswer : Rules → List ℕ → List ℕ → List ℕ → Answer → Type 0
-IsAnswer rules domain problem plan (Unbuilt role) = IsUnread domain problem plan role
-IsAnswer rules domain problem plan (Wide number place) =
-    (task : Task) × ((line : PlanLine) × (AreRead domain problem plan task number line
-    × IsFirstUndefined wide_limit (course rules task line) place))
-IsAnswer rules domain problem plan (Decided number verdict) =
-    (task : Task) × ((line : PlanLine) × (AreRead domain problem plan task number line
-    × (AllDefined wide_limit (course rules task line)
-    × IsRight rules task line verdict)))
+-- The answer is right under these rules. Each step of the work comes after those before it had no fault.
+abbrev pub IsAnswer : Rules → (domain_text problem_text plan_text : List ℕ) → Answer → Type 0
+IsAnswer rules domain_text problem_text plan_text (DomainRefused fault) = IsDomainFault domain_text fault
+IsAnswer rules domain_text problem_text plan_text (ProblemRefused fault) =
+    (domain : Domain) × (IsDomain domain_text domain × IsProblemFault domain problem_text fault)
+IsAnswer rules domain_text problem_text plan_text (GroundRefused fault) =
+    (domain : Domain) × ((problem : Problem)
+    × (AreFiles domain_text problem_text domain problem × (ground_answer domain problem ≡ Err fault)))
+IsAnswer rules domain_text problem_text plan_text (PlanRefused line kind) =
+    (task : TaskParts) × (MakeTask domain_text problem_text task × IsRefusedAt task plan_text (line, kind))
+IsAnswer rules domain_text problem_text plan_text (WideAt happening) =
+    (task : TaskParts) × ((plan : Plan)
+    × (AreRead domain_text problem_text plan_text task plan × IsWideAt task rules plan happening))
+IsAnswer rules domain_text problem_text plan_text (Decided verdict) =
+    (task : TaskParts) × ((plan : Plan)
+    × (AreRead domain_text problem_text plan_text task plan × Judges (Ok verdict) task rules plan))
 
--- what is answered, as a reply
-abbrev pub said_of : Answer → Said
-said_of (Unbuilt role) = unbuilt_said role
-said_of (Wide number place) = undefined_said number place
-said_of (Decided number verdict) = verdict_said number verdict
+-- what is answered, as a reply; nothing is said of a fault of memory, which is no right answer
+abbrev pub said_of : Answer → Option Said
+said_of (DomainRefused fault) = pddl_said (role_word role.Domain) fault
+said_of (ProblemRefused fault) = pddl_said (role_word role.Problem) fault
+said_of (GroundRefused fault) = ground_said fault
+said_of (PlanRefused line kind) = line_said line kind
+said_of (WideAt happening) = Some (wide_said happening)
+said_of (Decided verdict) = Some (verdict_said verdict)
 
 -- the reply is a right answer to the texts
-pub record Validates (rules : Rules) (domain problem plan : List ℕ) (said : Said) : Type 0 where
+pub record Validates (rules : Rules) (domain_text problem_text plan_text : List ℕ) (said : Said) : Type 0 where
   pub answer : Answer
-  pub right : IsAnswer rules domain problem plan answer
-  pub told : said ≡ said_of answer
+  pub right : IsAnswer rules domain_text problem_text plan_text answer
+  pub told : said_of answer ≡ Some said

@@ -5,12 +5,13 @@ use Rattle.command_words.specs.declared.requests.Limits.{Limits}
 use Rattle.outside.specs.Fetching.{Files, MayAnswer}
 use Rattle.outside.specs.Putting.{SinkView, sink_with}
 use Rattle.plan_text.specs.Numbers.{number_text}
-use Rattle.first_path.specs.declared.model.Task.{Task}
-use Rattle.first_path.specs.declared.model.PlanLine.{PlanLine}
-use Rattle.first_path.specs.declared.model.Reason.{Reason}
-use Rattle.first_path.specs.declared.model.Rules.{Rules}
-use Rattle.first_path.specs.Validity.{IsValid, IsFirstReason, cost}
-use Rattle.planner_core.specs.Validations.{reason_text}
+use Rattle.task_types.specs.declared.parts.Rules.{Rules}
+use Rattle.task_types.specs.declared.parts.TaskParts.{TaskParts}
+use Rattle.task_types.specs.declared.plans.Reason.{Reason}
+use Rattle.task_types.specs.Plan.{Plan}
+use Rattle.task_types.specs.Valid.{Valid, IsFirstReason}
+use Rattle.task_types.specs.Cost.{cost}
+use Rattle.reply_text.specs.Verdicts.{reason_text}
 use Rattle.planner_core.specs.Works.{Validate, AskFor}
 use Rattle.planner_core.specs.Answers.{AreRead, rules_of}
 
@@ -25,22 +26,20 @@ pub record AreFetched (words : List (List ℕ)) (files : Option Files) (limits :
 
 -- The texts are those of a task and a plan that is valid, and the reply tells its cost.
 pub record TellsValid (rules : Rules) (domain problem plan text : List ℕ) : Type 0 where
-  pub task : Task
-  pub number : ℕ
-  pub line : PlanLine
-  pub read : AreRead domain problem plan task number line
-  pub valid : IsValid rules task line
-  pub told : text ≡ codes "valid cost " ++ number_text (cost line) ++ codes "\n"
+  pub task : TaskParts
+  pub lines : Plan
+  pub read : AreRead domain problem plan task lines
+  pub valid : Valid task rules lines
+  pub told : text ≡ codes "valid cost " ++ number_text (cost task lines) ++ codes "\n"
 
 -- The texts are those of a task and a plan that is not valid, and the reply tells the first reason.
 pub record TellsInvalid (rules : Rules) (domain problem plan text : List ℕ) : Type 0 where
-  pub task : Task
-  pub number : ℕ
-  pub line : PlanLine
+  pub task : TaskParts
+  pub lines : Plan
   pub reason : Reason
-  pub read : AreRead domain problem plan task number line
-  pub first : IsFirstReason rules task line reason
-  pub told : text ≡ reason_text number reason ++ codes "\n"
+  pub read : AreRead domain problem plan task lines
+  pub first : IsFirstReason task rules lines reason
+  pub told : text ≡ reason_text reason
 
 -- A reply that tells so of the files, under the rules that the words set, was printed whole.
 pub record Printed (Tells : Rules → List ℕ → List ℕ → List ℕ → List ℕ → Type 0) (words : List (List ℕ))

@@ -1,9 +1,7 @@
 pub mod Replies
 pub mod Validations
 pub mod Answers
-pub mod PlanFile
-pub mod LineScan
-pub mod PlanFileParts
+pub mod Steps
 pub mod Works
 pub mod Words
 pub mod Sessions

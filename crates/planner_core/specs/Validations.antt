@@ -1,43 +1,43 @@
 -- Believed: the replies to a validation.
-use Rattle.std.specs.Prelude.{ℕ, List, ◌++◌, codes, decimal}
-use Rattle.plan_text.specs.Numbers.{number_text}
-use Rattle.first_path.specs.declared.model.Reason.{Reason}
-use Rattle.first_path.specs.declared.model.Reason.TheVariants.{Time, Duration, OverAll, Goal}
-use Rattle.first_path.specs.declared.model.Verdict.{Verdict}
-use Rattle.first_path.specs.declared.model.Verdict.TheVariants.{Valid, Invalid}
-use Rattle.first_path.specs.declared.model.Undefined.{Undefined}
-use Rattle.first_path.specs.declared.model.Undefined.TheVariants.{Line, Happening}
+use Rattle.std.specs.Prelude.{ℕ, List, Option, Some, None}
+use Rattle.pddl_terms.specs.declared.faults.PddlFault.{PddlFault}
+use Rattle.grounder.specs.declared.faults.GroundFault.{GroundFault}
+use Rattle.plan_files.specs.declared.faults.LineFault.TheVariants.{At}
+use Rattle.plan_files.specs.declared.faults.LineKind.{LineKind}
+use Rattle.plan_files.specs.declared.faults.LineKind.TheVariants as line
+use Rattle.plan_validator.specs.declared.verdicts.Verdict.{Verdict}
+use Rattle.plan_validator.specs.declared.verdicts.Verdict.TheVariants.{Valid, Invalid}
+use Rattle.reply_text.specs.Faults.{pddl_text, ground_text, line_text}
+use Rattle.reply_text.specs.Verdicts.{valid_text, reason_text, wide_happening}
+use Rattle.planner_core.specs.declared.status.Status.{Status}
 use Rattle.planner_core.specs.declared.status.Status.TheVariants.{Done, Negative, Refused, Budget}
-use Rattle.planner_core.specs.declared.reply.Role.{Role}
-use Rattle.planner_core.specs.declared.reply.Role.TheVariants.{Domain, Problem, Plan}
-use Rattle.planner_core.specs.Replies.{Said}
+use Rattle.planner_core.specs.declared.reply.Role.TheVariants.{Plan}
+use Rattle.planner_core.specs.Replies.{Said, role_word}
 
--- why the plan is not valid; its line has this number in the file
-abbrev pub reason_text : ℕ → Reason → List ℕ
-reason_text line Time = codes "invalid time line " ++ decimal line
-reason_text line Duration = codes "invalid duration line " ++ decimal line
-reason_text line (OverAll from to) =
-    codes "invalid over all line " ++ decimal line
-    ++ codes " between " ++ number_text from ++ codes " and " ++ number_text to
-reason_text line Goal = codes "invalid goal"
+-- a reply with this text, where there is one
+abbrev pub said_with : Status → Option (List ℕ) → Option Said
+said_with status None = None
+said_with status (Some text) = Some (record { status = status; text = text })
 
--- the plan is valid and has this cost, or it is not
-abbrev pub verdict_said : ℕ → Verdict → Said
-verdict_said line (Valid cost) =
-    record { status = Done; text = codes "valid cost " ++ number_text cost ++ codes "\n" }
-verdict_said line (Invalid reason) =
-    record { status = Negative; text = reason_text line reason ++ codes "\n" }
+-- a domain or a problem is refused; the word says which
+abbrev pub pddl_said : List ℕ → PddlFault → Option Said
+pddl_said file fault = said_with Refused (pddl_text file fault)
 
--- a number at this place passes 128 bits
-abbrev pub undefined_said : ℕ → Undefined → Said
-undefined_said line Line =
-    record { status = Budget; text = codes "wide line " ++ decimal line ++ codes "\n" }
-undefined_said line (Happening k) =
-    record { status = Budget; text = codes "wide happening " ++ decimal k ++ codes "\n" }
+abbrev pub ground_said : GroundFault → Option Said
+ground_said fault = said_with Refused (ground_text fault)
 
--- the file is not one that is read so far
-abbrev pub unbuilt_said : Role → Said
-unbuilt_said Domain = record { status = Refused; text = codes "refused domain Unbuilt at byte 0\n" }
-unbuilt_said Problem =
-    record { status = Refused; text = codes "refused problem Unbuilt at byte 0\n" }
-unbuilt_said Plan = record { status = Refused; text = codes "refused plan Unbuilt at line 0\n" }
+-- A line whose end passes 128 bits is no refusal of its file.
+abbrev pub line_status : LineKind → Status
+line_status line.Wide = Budget
+line_status kind = Refused
+
+abbrev pub line_said : ℕ → LineKind → Option Said
+line_said number kind = said_with (line_status kind) (line_text (role_word Plan) (At number kind))
+
+abbrev pub wide_said : ℕ → Said
+wide_said happening = record { status = Budget; text = wide_happening happening }
+
+-- the plan is valid and has this cost, or isn't, for this reason first
+abbrev pub verdict_said : Verdict → Said
+verdict_said (Valid cost) = record { status = Done; text = valid_text cost }
+verdict_said (Invalid reason) = record { status = Negative; text = reason_text reason }

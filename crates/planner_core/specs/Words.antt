@@ -2,11 +2,7 @@
 use Rattle.planner_core.specs.declared.words.Command.{Command}
 use Rattle.planner_core.specs.declared.words.Command.TheVariants as command
 use Rattle.command_words.specs.Requests.{files_seen}
-use Rattle.command_words.specs.declared.requests.Limits.{Limits}
 use Rattle.planner_core.specs.Works.{Request, Validate}
 
 abbrev pub asked : Command → Request
 asked (command.Validate files limits) = Validate (files_seen files) limits
-
-abbrev pub limits_of : Request → Limits
-limits_of (Validate files limits) = limits

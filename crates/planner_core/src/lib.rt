@@ -3,7 +3,6 @@
 
 mod fetching;
 pub mod laws;
-mod plan_file;
 mod reply;
 mod session;
 mod status;

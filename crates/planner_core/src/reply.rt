@@ -17,15 +17,24 @@ pub enum Role {
     Plan,
 }
 
+impl Role {
+    /// The word for the file.
+    pub fn word(self) -> &'static str
+        ensures { result.now ≡ role_word self }
+    {
+        match self {
+            Role::Domain => "domain",
+            Role::Problem => "problem",
+            Role::Plan => "plan",
+        }
+    }
+}
+
 impl fmt::Display for Role {
     ghost output = { λ role. Some (role_word role) };
 
     fn fmt<W: fmt::Write>(&self, f: &mut fmt::Formatter<W>) -> fmt::Result {
-        f.write_str(match self {
-            Role::Domain => "domain",
-            Role::Problem => "problem",
-            Role::Plan => "plan",
-        })
+        f.write_str(self.word())
     }
 }
 

@@ -1,11 +1,10 @@
 //! A run of the program: the words, the fetches, the reply, and its delivery.
 
 ghost use Rattle.std.specs.Prelude.{◌≡◌, ◌≢◌, ◌⊎◌, ◌↔◌, ◌+◌, ◌<◌, ◌^◌, ◌-◌, None};
-ghost use Rattle.rational.specs.Rational.{zeroℚ, ◌<ℚ◌};
 ghost use Rattle.command_words.specs.Grammar.{texts};
 ghost use Rattle.command_words.specs.Requests.{files_seen};
 ghost use Rattle.planner_core.specs.Works.{AreFor, IsFileAsked, work_of_request, validate_work};
-ghost use Rattle.planner_core.specs.Words.{asked, limits_of};
+ghost use Rattle.planner_core.specs.Words.{asked};
 ghost use Rattle.planner_core.specs.Sessions.{Came, CameByWords, Ran};
 ghost use Rattle.planner_core.specs.Stops.{outcome, reply_said};
 ghost use Rattle.planner_core.specs.Headline.{Printed, TellsValid, TellsInvalid};
@@ -23,8 +22,7 @@ use std::alloc::Global;
 /// Runs the program: from the words of the command line, without the program's name, to the reply
 /// in the sink, which goes out whole in one put.
 ///
-/// So far `validate DOMAIN PROBLEM PLAN`, with `--epsilon` and `--horizon`, is the one command, and reads tasks of one
-/// fluent and one durative action.
+/// So far `validate DOMAIN PROBLEM PLAN`, with `--epsilon` and `--horizon`, is the one command.
 pub fn run<D: Desk, K: Sink>(alloc: Global, words: &[String], desk: &mut D, sink: &mut K) -> Status
     requires desk_count { (D.told desk.old).faults < 2 ^ 64 - 1 }
     requires sink_count { (K.told sink.old).puts < 2 ^ 64 - 1 }
@@ -37,7 +35,7 @@ pub fn run<D: Desk, K: Sink>(alloc: Global, words: &[String], desk: &mut D, sink
     ensures no_memory { result ≡ Status.NoMemory →
         (D.told desk.new ≡ D.told desk.old) × (K.told sink.new ≡ K.told sink.old) }
 
-    // A verdict is printed only where the files hold such a plan: valid at every instant and of this
+    // A verdict is printed only where the files hold such a task and such a plan: valid at every instant and of this
     // cost, or not valid, with its first reason.
     ensures valid { result ≡ Status.Done → Printed TellsValid (texts words.now)
         (D.told desk.old).files (K.told sink.old) (K.told sink.new) }
@@ -97,8 +95,7 @@ fn perform<D: Desk>(alloc: Global, words: &[String], desk: &mut D) -> Result<Rep
 
 // Does what a command asks for.
 fn carry_out<D: Desk>(alloc: Global, desk: &mut D, command: &Command<'_>) -> Result<Reply, Stop>
-    requires faults { (D.told desk.old).faults < 2 ^ 64 - 1 }
-    requires epsilon { zeroℚ <ℚ (limits_of (asked command.now)).epsilon }
+    requires { (D.told desk.old).faults < 2 ^ 64 - 1 }
     ensures { Came (work_of_request (asked command.now))
         (D.told desk.old) (D.told desk.new) (outcome result) }
 {
@@ -114,8 +111,7 @@ fn validate<D: Desk>(
     files: Files<'_>,
     limits: Limits,
 ) -> Result<Reply, Stop>
-    requires faults { (D.told desk.old).faults < 2 ^ 64 - 1 }
-    requires epsilon { zeroℚ <ℚ limits.epsilon }
+    requires { (D.told desk.old).faults < 2 ^ 64 - 1 }
     ensures { Came (validate_work (files_seen files.entry) limits)
         (D.told desk.old) (D.told desk.new) (outcome result) }
 {

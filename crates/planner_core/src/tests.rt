@@ -2,6 +2,10 @@
 
 ghost use Rattle.std.specs.Prelude.{◌≡◌, IfOk};
 
+mod reasons;
+mod refusals;
+mod rows;
+
 use crate::run;
 use outside::{LONGEST_FILE, MemoryDesk, MemorySink};
 use std::alloc::{AllocError, Global};
@@ -168,79 +172,4 @@ fn a_reply_goes_out_in_one_put(rt: HostRuntime) -> Result<(), Fail> {
 // Whether these texts are answered so.
 fn answers(alloc: Global, texts: [&str; 3], code: u8, text: &str) -> Result<bool, AllocError> {
     replies(alloc, VALIDATE, desk_of(alloc, texts, "", 0)?, code, text)
-}
-
-#[test]
-fn plans_are_validated(rt: HostRuntime) -> Result<(), Fail> {
-    for (plan, code, text) in [
-        (
-            "; full\r\n\n 0 :( Fill )[10/2] ; now",
-            0,
-            "valid cost 5.000\n",
-        ),
-        ("0.25: (fill) [5]", 0, "valid cost 5.250\n"),
-        ("1/3: (fill) [5]", 0, "valid cost 16/3\n"),
-        ("; full\n-1: (fill) [5]", 1, "invalid time line 2\n"),
-        ("999996: (fill) [5]", 1, "invalid time line 1\n"),
-        ("0: (fill) [4]", 1, "invalid duration line 1\n"),
-        (
-            "1/170141183460469231731687303715884105727: (fill) [1/3]",
-            4,
-            "wide line 1\n",
-        ),
-    ] {
-        assert!(rt;
-            answers(rt.alloc(), [DOMAIN, PROBLEM, plan], code, text)?,
-            "{text}"
-        );
-    }
-    Ok(())
-}
-
-#[test]
-fn conditions_and_goals_are_validated(rt: HostRuntime) -> Result<(), Fail> {
-    let alloc = rt.alloc();
-    for (old, new, text) in [
-        (
-            "(level) 0",
-            "(level) 1",
-            "invalid over all line 1 between 0.000 and 5.000\n",
-        ),
-        ("(level) 10", "(level) 11", "invalid goal\n"),
-    ] {
-        let problem = PROBLEM.replace(alloc, old, new)?;
-        assert!(rt;
-            answers(alloc, [DOMAIN, problem.as_str(), PLAN], 1, text)?,
-            "{text}"
-        );
-    }
-    Ok(())
-}
-
-#[test]
-fn other_texts_are_refused(rt: HostRuntime) -> Result<(), Fail> {
-    for (texts, text) in [
-        (["", "", ""], "refused domain Unbuilt at byte 0\n"),
-        (
-            [PROBLEM, PROBLEM, PLAN],
-            "refused domain Unbuilt at byte 0\n",
-        ),
-        ([DOMAIN, DOMAIN, ""], "refused problem Unbuilt at byte 0\n"),
-        ([DOMAIN, PROBLEM, ""], "refused plan Unbuilt at line 0\n"),
-        (
-            [DOMAIN, PROBLEM, "0: (fill) [5]\n9: (fill) [5]"],
-            "refused plan Unbuilt at line 0\n",
-        ),
-        (
-            [DOMAIN, PROBLEM, "0: (drain) [5]"],
-            "refused plan Unbuilt at line 0\n",
-        ),
-        (
-            [DOMAIN, PROBLEM, "0: (fill)"],
-            "refused plan Unbuilt at line 0\n",
-        ),
-    ] {
-        assert!(rt; answers(rt.alloc(), texts, 3, text)?, "{text}");
-    }
-    Ok(())
 }

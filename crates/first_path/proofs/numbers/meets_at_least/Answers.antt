@@ -1,5 +1,0 @@
-use Rattle.first_path.proofs.Bounds.{not_negative, above_met}
-use Rattle.first_path.proofs.numbers.meets_at_least.Goals as goal
-
-pub returns : goal.returns
-returns c = above_met c.args.limit c.args.value _ _ _ c.neg.ensures c.in_ok-margin.ensures.0 c.in_ok-margin.ensures.1 (not_negative _ _ c.is_negative.ensures)
