@@ -1,5 +1,5 @@
 -- What keeps within the limit of bindings, part by part.
-use Rattle.std.proofs.Common.{◌≡◌, ◌<◌, ◌≤◌, arith, true}
+use Rattle.std.proofs.Common.{◌≡◌, ◌≤◌, arith, true}
 use Rattle.std.specs.List.{list_all}
 use Rattle.basics.proofs.Bools.{and_left, and_right}
 use Rattle.pddl_terms.specs.declared.files.Domain.{Domain}

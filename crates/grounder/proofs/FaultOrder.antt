@@ -1,5 +1,5 @@
 -- Which fault grounding tells: the first, in the order in which they are looked for.
-use Rattle.std.proofs.Common.{◌≡◌, refl, sym, ap, ◌∙◌, ℕ, ◌<◌, ◌≤◌, arith, Bool, true, false, nat_le, List, [], ◌∷◌, ◌++◌, map, length, Option, Some, None, Result, Ok, Err}
+use Rattle.std.proofs.Common.{◌≡◌, refl, sym, ap, ◌∙◌, ℕ, ◌<◌, ◌≤◌, arith, Bool, true, false, nat_le, List, [], ◌∷◌, ◌++◌, map, length, Option, Some, None, Ok, Err}
 use Rattle.std.specs.Prelude.{if◌then◌else◌}
 use Rattle.std.specs.List.{AllByRecursion as Each, flat_map}
 use Rattle.std.proofs.lemmas.List.{length-map}
@@ -30,12 +30,15 @@ first-append (Some f ∷ fs) gs = refl
 -- ---- the limits of numbers
 
 counts-first : (task : TaskParts) → (more : Option GroundFault) × (limit_fault task ≡ either more (λ x. Some x) (count_fault (length task.facts) (length task.fluents) (length task.actions)))
-counts-first task = (_, first-append
-    (past (record { name = limit.Facts; count = length task.facts; most = 16384 })
-    ∷ past (record { name = limit.Fluents; count = length task.fluents; most = 2048 })
-    ∷ past (record { name = limit.Actions; count = length task.actions; most = 8192 })
-    ∷ [])
-    (map past (more (limits task))))
+counts-first task = (
+  _,
+  first-append
+      (past (record { name = limit.Facts; count = length task.facts; most = 16384 })
+      ∷ past (record { name = limit.Fluents; count = length task.fluents; most = 2048 })
+      ∷ past (record { name = limit.Actions; count = length task.actions; most = 8192 })
+      ∷ [])
+      (map past (more (limits task))),
+)
   where
     more : List Counted → List Counted
     more (a ∷ b ∷ c ∷ rest) = rest
@@ -47,8 +50,8 @@ count-told task f h = let k = counts-first task in k.1 ∙ ap (λ o. either k.0 
 pub count-few : (facts fluents actions : ℕ) → count_fault facts fluents actions ≡ None → actions ≤ 8192
 count-few facts fluents actions h =
     let own : List Counted = record { name = limit.Facts; count = facts; most = 16384 }
-      ∷ record { name = limit.Fluents; count = fluents; most = 2048 }
-      ∷ record { name = limit.Actions; count = actions; most = 8192 } ∷ [] in
+    ∷ record { name = limit.Fluents; count = fluents; most = 2048 }
+    ∷ record { name = limit.Actions; count = actions; most = 8192 } ∷ [] in
     let a : Each (λ c. past c ≡ None) own = map_each (λ f. f ≡ None) past own (none-each (map past own) h) in
     kept-limit (record { name = limit.Actions; count = actions; most = 8192 }) a.1.1.0
 

@@ -1,6 +1,6 @@
-//! The first of the faults that are told before the task is made.
+//! The first of the faults that have a place.
 
-ghost use Rattle.std.specs.Prelude.{◌≡◌, ◌≤◌, [], ◌∷◌, List, map, true, IfOk, Some};
+ghost use Rattle.std.specs.Prelude.{◌≡◌, ◌≤◌, true, IfOk};
 ghost use Rattle.std.specs.List.{list_all};
 ghost use Rattle.ground_world.specs.Counts.{goal_count, part_limit};
 ghost use Rattle.ground_world.specs.Leaves.{goal_preferences};
@@ -8,11 +8,11 @@ ghost use Rattle.ground_world.specs.Readings.{unknowns_of};
 ghost use Rattle.ground_world.specs.Shown.{world_of};
 ghost use Rattle.grounder.specs.Reach.{preference_fits};
 ghost use Rattle.grounder.specs.Units.{problem_units};
-ghost use Rattle.grounder.specs.FaultSteps.{placed, place_fault, unit_fault, count_fault};
+ghost use Rattle.grounder.specs.FaultSteps.{placed, place_fault, unit_fault};
 ghost use Rattle.grounder.specs.declared.faults.GroundFault.TheVariants as fault;
 
-use crate::faults::{GroundFault, LimitName};
-use crate::limits::{first_of, past};
+use crate::faults::GroundFault;
+use crate::limits::first_of;
 use crate::units::unit_faults;
 use exact_lin::NoMemory;
 use ground_world::{MetricNames, Tables, goal_preferences};
@@ -69,17 +69,4 @@ pub fn unit_fault(
         &problem.metric,
     )?;
     Ok(place_fault(actions, found.wide, found.none))
-}
-
-/// The first limit that numbers of facts, fluents and actions are past.
-pub fn count_fault(facts: usize, fluents: usize, actions: usize) -> Option<GroundFault>
-    ensures { result ≡ count_fault facts fluents actions }
-{
-    first_of(
-        past(LimitName::Facts, facts, 16_384),
-        first_of(
-            past(LimitName::Fluents, fluents, 2_048),
-            past(LimitName::Actions, actions, 8_192),
-        ),
-    )
 }

@@ -19,11 +19,11 @@ ghost use Rattle.grounder.specs.Task.{fact_atoms};
 
 use crate::facts::facts;
 use crate::faults::{GroundFault, LimitName};
-use crate::first_faults::{count_fault, unit_fault};
+use crate::first_faults::unit_fault;
 use crate::grounding::Grounding;
 use crate::instances::Instance;
 use crate::judging::kept_instances;
-use crate::limits::limit_fault;
+use crate::limits::{count_fault, limit_fault};
 use crate::metric_form::metric_form;
 use crate::task_parts::task_parts;
 use exact_lin::NoMemory;
@@ -32,7 +32,8 @@ use pddl_terms::{Domain, Problem};
 use std::alloc::Global;
 use task_types::{Task, TaskParts};
 
-// The task where it is within its limits, else the fault of the first limit that it is past. No fault has a place.
+// The task where it is within its limits, else the fault of the first limit that it is past; there is no fault with a
+// place.
 fn limited<'a>(
     alloc: Global,
     grounding: &'a Grounding,
@@ -78,7 +79,13 @@ fn grounded<'a>(
         Some(fault) => return Ok(Err(fault)),
         None => (),
     }
-    limited(alloc, grounding, domain, problem, found.instances.as_slice())
+    limited(
+        alloc,
+        grounding,
+        domain,
+        problem,
+        found.instances.as_slice(),
+    )
 }
 
 // The first fault where there are too many facts.
@@ -196,8 +203,10 @@ fn whole(alloc: Global, parts: TaskParts) -> Result<Task, GroundFault>
     }
 }
 
-/// The ground task of a domain and a problem that their readers accepted, or why there is none: the first fault, in the
-/// order of `GroundFault`. The limits are asked before what they limit is made, so that the time is bounded too.
+/// The ground task of a domain and a problem that their readers accepted, or the first reason that there is none, or
+/// that memory ran out. The reasons are looked for in this order: the limit of bindings; the least place in the actions
+/// at which a reckoning passes 128 bits; the least such place in the goal, its preferences and the metric; the least
+/// place there at which a fluent has no value or a divisor is 0; then the task's own limits, in the order of `LimitName`.
 pub fn ground(alloc: Global, domain: &Domain, problem: &Problem) -> Result<Task, GroundFault>
     requires accepted { IsAccepted domain.now problem.now }
     ensures answers { Answers domain.now problem.now (answer_of result) }

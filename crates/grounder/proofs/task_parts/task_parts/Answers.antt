@@ -1,4 +1,4 @@
-use Rattle.std.proofs.Common.{◌≡◌, sym, ap, subst, ◌∙◌, nat_le, true, List}
+use Rattle.std.proofs.Common.{◌≡◌, sym, subst, ◌∙◌, nat_le, true, List}
 use Rattle.std.specs.List.{list_all}
 use Rattle.ground_world.specs.Counts.{body_count, part_limit}
 use Rattle.ground_world.specs.FirstState.{world}

@@ -1,9 +1,9 @@
-use Rattle.std.proofs.Common.{◌≡◌, sym, ap, ◌∙◌, ◌≤◌, length, List, Some, None, Ok}
+use Rattle.std.proofs.Common.{sym, ap, ◌∙◌, length, Some, None, Ok}
 use Rattle.std.proofs.lemmas.List.{length-map}
 use Rattle.task_types.specs.declared.parts.TaskParts.{TaskParts}
 use Rattle.grounder.specs.ShownInstances.{instance_of}
 use Rattle.grounder.specs.FaultSteps.{limit_fault}
-use Rattle.grounder.proofs.FaultOrder.{count-answer, count-few, limit-answer}
+use Rattle.grounder.proofs.FaultOrder.{count-answer, limit-answer}
 use Rattle.grounder.proofs.tasks.limited.Goals as goal
 
 pub returns-in-Some : goal.returns-in-Some
