@@ -22,6 +22,9 @@ pub mod Asking
 pub mod ConstraintSteps
 pub mod TrailSteps
 pub mod LeafSteps
+pub mod ChangingBlocks
+pub mod FactSteps
+pub mod NameSteps
 pub mod Passed
 pub mod WorldFacts
 pub mod Conditions
@@ -42,6 +45,8 @@ pub mod Twice
 pub mod ActionNumbers
 pub mod BuildingSteps
 pub mod BindingSteps
+pub mod UnitSteps
+pub mod TermSteps
 pub mod PieceLists
 pub mod Pairing
 pub mod Judged
@@ -54,3 +59,8 @@ pub mod ExampleFaults
 pub mod ExampleLimits
 pub mod ExampleActions
 pub mod ExampleTerms
+pub mod BindingLimits
+pub mod FewSteps
+pub mod FaultOrder
+pub mod TaskFields
+pub mod GroundingParts

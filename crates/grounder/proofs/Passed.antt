@@ -24,13 +24,13 @@ use Rattle.grounder.specs.Task.{ground_task}
 use Rattle.grounder.specs.Terms.{preference_parts, comparisons_in, goal_parts}
 use Rattle.grounder.specs.Answer.{Counted, Unit, unit_of_tests, at_place, first_fault, greatest, least, past, limits, units, unvalued, wide_in, none_in, ground_fault}
 
-none-each : (fs : List (Option GroundFault)) → first_fault fs ≡ None → Each (λ f. f ≡ None) fs
+pub none-each : (fs : List (Option GroundFault)) → first_fault fs ≡ None → Each (λ f. f ≡ None) fs
 none-each [] h = tt
 none-each (None ∷ fs) h = (refl, none-each fs h)
 none-each (Some f ∷ fs) h = cc
 
 -- a limit that isn't passed
-kept-limit : (c : Counted) → past c ≡ None → c.count ≤ c.most
+pub kept-limit : (c : Counted) → past c ≡ None → c.count ≤ c.most
 kept-limit c h = by (nat_le c.count c.most) refl h
   where
     by : (b : Bool) → nat_le c.count c.most ≡ b → (if b then None else Some (fault.Limit c.name)) ≡ None → c.count ≤ c.most

@@ -11,8 +11,13 @@ pub mod Reach
 pub mod ShownPreferences
 pub mod ShownQuantified
 pub mod ShownTimings
+pub mod Blocks
+pub mod ShownBlocks
+pub mod PlainParts
 pub mod ShownTerms
 pub mod GoalTerms
+pub mod Units
+pub mod ShownUnits
 pub mod ShownInstances
 pub mod Bindings
 pub mod ShownPieces
@@ -26,3 +31,4 @@ pub mod ExampleFaults
 pub mod ExampleLimits
 pub mod ExampleActions
 pub mod ExampleTerms
+pub mod FaultSteps

@@ -44,8 +44,8 @@ struct Written<'a> {
     outline: Outline<'a>,
 }
 
-// Whether an action is durative.
-fn is_durative(body: &ActionBody) -> bool
+/// Whether an action is durative.
+pub fn is_durative(body: &ActionBody) -> bool
     ensures { result ≡ task.is_durative body.now }
 {
     match body {

@@ -4,9 +4,19 @@ ghost use Rattle.std.specs.Prelude.{◌≡◌, [], ◌∷◌, Some, map, length}
 ghost use Rattle.std.specs.List.{filter};
 ghost use Rattle.ground_world.specs.World.{either};
 ghost use Rattle.grounder.specs.Answer.{past, first_fault, limits, greatest, is_within, is_timed_term};
+ghost use Rattle.grounder.specs.FaultSteps.{count_fault};
 
 use crate::faults::{GroundFault, LimitName};
 use task_types::{Action, Soft, TaskParts, TrailKind};
+
+/// The most facts of a task.
+pub(crate) const MOST_FACTS: usize = 16_384;
+
+/// The most fluents of a task.
+pub(crate) const MOST_FLUENTS: usize = 2_048;
+
+/// The most actions of a task.
+pub(crate) const MOST_ACTIONS: usize = 8_192;
 
 // The fault of a count that is past its limit.
 fn past(name: LimitName, count: usize, most: usize) -> Option<GroundFault>
@@ -19,8 +29,8 @@ fn past(name: LimitName, count: usize, most: usize) -> Option<GroundFault>
     }
 }
 
-// The first of two faults.
-fn first_of(one: Option<GroundFault>, other: Option<GroundFault>) -> Option<GroundFault>
+/// The first of two faults.
+pub(crate) fn first_of(one: Option<GroundFault>, other: Option<GroundFault>) -> Option<GroundFault>
     ensures { result ≡ either other (λ fault. Some fault) one }
 {
     match one {
@@ -84,6 +94,19 @@ fn timed_terms(terms: &[Soft]) -> usize
     count
 }
 
+/// The first limit that numbers of facts, fluents and actions are past, as a fault.
+pub(crate) fn count_fault(facts: usize, fluents: usize, actions: usize) -> Option<GroundFault>
+    ensures { result ≡ count_fault facts fluents actions }
+{
+    first_of(
+        past(LimitName::Facts, facts, MOST_FACTS),
+        first_of(
+            past(LimitName::Fluents, fluents, MOST_FLUENTS),
+            past(LimitName::Actions, actions, MOST_ACTIONS),
+        ),
+    )
+}
+
 /// The first limit that a task is past, as a fault: facts, fluents, actions, constraints and soft terms together, timed
 /// steps, comparisons of an over-all condition, soft terms that look at moments or at numbers.
 pub fn limit_fault(task: &TaskParts) -> Option<GroundFault>
@@ -100,7 +123,14 @@ pub fn limit_fault(task: &TaskParts) -> Option<GroundFault>
         past(LimitName::Terms, terms, 512),
         first_of(past(LimitName::Timed, task.timed.len(), 64), last),
     );
-    let actions = first_of(past(LimitName::Actions, task.actions.len(), 8_192), further);
-    let fluents = first_of(past(LimitName::Fluents, task.fluents.len(), 2_048), actions);
-    first_of(past(LimitName::Facts, task.facts.len(), 16_384), fluents)
+    let actions = first_of(
+        past(LimitName::Actions, task.actions.len(), MOST_ACTIONS),
+        further,
+    );
+    let fluents = first_of(
+        past(LimitName::Fluents, task.fluents.len(), MOST_FLUENTS),
+        actions,
+    );
+    let facts = past(LimitName::Facts, task.facts.len(), MOST_FACTS);
+    first_of(facts, fluents)
 }

@@ -11,7 +11,7 @@ use Rattle.lp_tableau.proofs.Firsts.{Chosen, IsLesser-itself, IsLesser-through}
 use Rattle.lp_tableau.proofs.Solving.{same_or_not}
 use Rattle.lp_sparse.specs.declared.rules.Direction.{Direction}
 use Rattle.lp_sparse.specs.declared.rules.Direction.TheVariants.{Down, Up}
-use Rattle.lp_sparse.specs.SparseTurns.{HasDirection, Points}
+use Rattle.lp_sparse.specs.Directions.{HasDirection, Points}
 use Rattle.lp_sparse.proofs.Coefficients.{coefficient-front, coefficient-back, coefficient-past}
 
 module _ (P Q : ℕ → Type 0) (xs : List ℕ) (n : ℕ) where

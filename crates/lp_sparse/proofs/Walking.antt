@@ -1,17 +1,14 @@
 -- Turn after turn: where a pivot is not made.
-use Rattle.std.proofs.Common.{◌≡◌, ℕ, ◌<◌, ◌⊎◌, inr, ⊎_elim, List, sym, subst}
+use Rattle.std.proofs.Common.{◌≡◌, ℕ, ◌<◌, inr, List, sym, subst}
 use Rattle.rational.specs.Rational.{ℚ}
 use Rattle.cert_core.specs.Programs.{Program, ProvesEmpty}
 use Rattle.lp_tableau.specs.Multipliers.{farkas_of, numbered}
 use Rattle.lp_tableau.proofs.Certificates.{farkas-proves}
 use Rattle.lp_tableau.specs.Dictionaries.{Dictionary}
 use Rattle.lp_tableau.specs.Pivots.{CanPivot}
-use Rattle.lp_tableau.specs.Chains.{Chooses, Leads, HasEnded, IsUndefined, EndsInfeasible, LeavesFirst}
+use Rattle.lp_tableau.specs.Chains.{Chooses, Leads, IsUndefined, EndsInfeasible, LeavesFirst}
 use Rattle.lp_tableau.specs.Meanings.{IsDictionary, StandsFor}
-use Rattle.lp_tableau.proofs.Turning.{EntersSecond-not_ended, Chooses-not_ended, LeavesFirst-one}
-use Rattle.lp_sparse.specs.declared.turn.Turn.{Turn}
-use Rattle.lp_sparse.specs.declared.turn.Turn.TheVariants.{Pivot, Wide}
-use Rattle.lp_sparse.specs.SparseTurns.{IsTurn}
+use Rattle.lp_tableau.proofs.Turning.{Chooses-not_ended, LeavesFirst-one}
 use Rattle.lp_sparse.specs.Stops.{IsStopped}
 
 module _ (limit : ℕ) (first d e : Dictionary) (budget made i j : ℕ) (h : made < budget) (l : Leads limit first made d) (c : Chooses limit d i j) (same : e ≡ d) where
@@ -22,13 +19,6 @@ module _ (limit : ℕ) (first d e : Dictionary) (budget made i j : ℕ) (h : mad
   -- for want of memory
   pub stopped : IsDictionary d → IsStopped limit first budget e
   stopped is = subst (IsStopped limit first budget) (sym same) (made, h, l, Chooses-not_ended limit d i j is c)
-
--- where the rules ask for a pivot the chain goes on
-pub turns_on : (limit : ℕ) (d : Dictionary) (turn : Turn) → IsDictionary d → IsTurn limit d turn → ((i : ℕ) × (j : ℕ) × (turn ≡ Pivot i j)) ⊎ (turn ≡ Wide) → ¬ HasEnded d
-turns_on limit d turn is h e = ⊎_elim
-    (λ p. Chooses-not_ended limit d p.0 p.1 is (subst (IsTurn limit d) p.2 h))
-    (λ w. let a = subst (IsTurn limit d) w h in EntersSecond-not_ended d a.0 a.1)
-    e
 
 -- the row at which the chain ended infeasible is found again
 pub found-proves : (d now : Dictionary) → d ≡ now → IsDictionary d → (i : ℕ) × EndsInfeasible now i → (k : ℕ) → LeavesFirst d k → (p : Program) → StandsFor p now → (ys : List ℚ) → ys ≡ farkas_of d k → ProvesEmpty p (numbered 0 ys)

@@ -3,7 +3,7 @@ pub mod SparseChanges
 pub mod SparsePivots
 pub mod ColumnMarks
 pub mod SparseTableaus
-pub mod SparseTurns
+pub mod Directions
 pub mod Stops
 pub mod NarrowPrograms
 pub mod Widths

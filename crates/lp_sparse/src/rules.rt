@@ -11,7 +11,7 @@ ghost use Rattle.lp_tableau.specs.Places.{FindsFirst, IsLesser};
 ghost use Rattle.lp_tableau.specs.Chains.{IsNegative, IsRaising, IsCheaper, IsFalling, IsTighter, CanRatio, CanCompare, ratio_of};
 ghost use Rattle.lp_sparse.specs.SparseRows.{terms_of};
 ghost use Rattle.lp_sparse.specs.SparseTableaus.{AreRows, dictionary_of};
-ghost use Rattle.lp_sparse.specs.SparseTurns.{Points, HasDirection};
+ghost use Rattle.lp_sparse.specs.Directions.{Points, HasDirection};
 
 use crate::tableau::Tableau;
 use exact_lin::{Scalar, Wide, is_negative, is_positive};

@@ -1,25 +1,13 @@
 //! One turn of the method: what comes next.
 
 ghost use Rattle.lp_tableau.specs.Chains.{NeverUnlimited, EntersSecond};
+ghost use Rattle.lp_tableau.specs.Turns.{IsTurn};
 ghost use Rattle.lp_sparse.specs.SparseTableaus.{AreRows, dictionary_of};
-ghost use Rattle.lp_sparse.specs.SparseTurns.{IsTurn};
 
 use crate::rules::{entering_cost, entering_row, leaving, tightest};
 use crate::tableau::Tableau;
 use exact_lin::Scalar;
-
-/// What the rules ask for.
-#[derive(Clone, Copy, Drop)]
-pub(crate) enum Turn {
-    /// No constant is negative, and no entry of the cost.
-    Optimal,
-    /// A constant is negative, and no entry of its row is positive.
-    Infeasible,
-    /// The basic variable at the first place leaves, the nonbasic one at the second enters.
-    Pivot(usize, usize),
-    /// A ratio is not defined.
-    Wide,
-}
+use lp_tableau::Turn;
 
 // The basic variable that leaves for the nonbasic one at j, by the second rule.
 fn second_turn<S: Scalar>(t: &Tableau<S>, j: usize) -> Turn

@@ -7,9 +7,9 @@ ghost use Rattle.lp_tableau.specs.Outcomes.{IsOutcome};
 
 use crate::pivot::pivot;
 use crate::tableau::Tableau;
-use crate::turn::{Turn, next_turn};
+use crate::turn::next_turn;
 use exact_lin::{FormFault, NoMemory, Scalar};
-use lp_tableau::Outcome;
+use lp_tableau::{Outcome, Turn};
 
 // At most `budget` pivots, as the rules name them.
 pub(crate) fn walk<S: Scalar>(

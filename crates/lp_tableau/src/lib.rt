@@ -18,3 +18,4 @@ mod walk;
 pub use dictionary::Dictionary;
 pub use laws::{chains_are_one, narrow_chains_are_wide};
 pub use outcome::Outcome;
+pub use turn::Turn;

@@ -8,9 +8,9 @@ use crate::rules::{entering_cost, entering_row, leaving, tightest};
 use crate::tableau::Tableau;
 use exact_lin::Scalar;
 
-/// What the rules ask for.
+/// What the rules ask for next, of a dictionary.
 #[derive(Clone, Copy, Drop)]
-pub(crate) enum Turn {
+pub enum Turn {
     /// No constant is negative, and no entry of the cost.
     Optimal,
     /// A constant is negative, and no entry of its row is positive.

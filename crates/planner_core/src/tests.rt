@@ -2,6 +2,7 @@
 
 ghost use Rattle.std.specs.Prelude.{◌≡◌, IfOk};
 
+mod examples;
 mod reasons;
 mod refusals;
 mod rows;

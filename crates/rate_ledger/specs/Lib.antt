@@ -1,6 +1,12 @@
+pub mod Answers
 pub mod Carrying
 pub mod Entries
+pub mod ExampleTask
 pub mod Laws
+pub mod Ledgers
+pub mod Moving
+pub mod Picking
 pub mod Reckoned
 pub mod Sights
 pub mod Sums
+pub mod Values

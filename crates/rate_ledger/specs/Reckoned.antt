@@ -1,4 +1,4 @@
--- Private: what each step of a list reckons for its value forms, and where all of it is defined.
+-- Believed: what each step of a list reckons for its value forms, and where all of it is defined.
 use Rattle.std.specs.Prelude.{ℕ, suc, if◌then◌else◌, List, [], ◌∷◌, ◌++◌, map, length}
 use Rattle.std.specs.List.{filter, flat_map, AllByRecursion}
 use Rattle.rational.specs.Rational.{zeroℚ}

@@ -1,4 +1,19 @@
 //! Value forms: what each fluent has before and after each step of a list, as a linear form over the times of the steps.
 #![tactic(auto)]
 
+mod amounts;
+mod changes;
+mod ends;
+mod forms;
 pub mod laws;
+mod ledgers;
+mod nexts;
+mod rates;
+mod running;
+mod snaps;
+#[cfg(test)]
+mod tests;
+mod whens;
+
+pub use ledgers::Ledger;
+pub use whens::When;

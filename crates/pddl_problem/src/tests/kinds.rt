@@ -122,6 +122,52 @@ fn forms_are_linear_and_whole(rt: HostRuntime) {
 }
 
 #[test]
+fn metrics_reward_no_lateness(rt: HostRuntime) {
+    let rows = [
+        (
+            b"(define (problem p) (:domain d) (:init) (:goal ()) (:metric maximize (total-time)))".as_slice(),
+            at(Kind::MetricSign, 69),
+        ),
+        (
+            b"(define (problem p) (:domain d) (:init) (:goal (preference n (p))) (:metric minimize (- 5 (is-violated n))))",
+            at(Kind::MetricSign, 90),
+        ),
+        (
+            b"(define (problem p) (:domain d) (:init) (:goal ()) (:time-costs (l (p) 1 2 3)) (:metric minimize (* -2 (time-cost l))))",
+            at(Kind::MetricSign, 103),
+        ),
+        (
+            b"(define (problem p) (:domain d) (:init) (:goal ()) (:metric minimize (- (total-time) (* 2 total-time))))",
+            at(Kind::MetricSign, 72),
+        ),
+    ];
+    for (text, fault) in rows {
+        assert_eq!(rt; fault_of(rt.alloc(), DOMAIN, text), fault);
+    }
+}
+
+#[test]
+fn signs_are_asked_among_the_forms(rt: HostRuntime) {
+    let rows = [
+        (
+            b"(define (problem p) (:domain d) (:init) (:goal ()) (:metric maximize (total-time)) (:time-costs (l (p) 5 5 1)))".as_slice(),
+            at(Kind::MetricSign, 69),
+        ),
+        (
+            b"(define (problem p) (:domain d) (:init (at 0 (p))) (:goal ()) (:metric maximize (total-time)))",
+            at(Kind::TilClash, 43),
+        ),
+        (
+            b"(define (problem p) (:domain d) (:init) (:goal ()) (:metric maximize (+ (g c) (total-time))))",
+            None,
+        ),
+    ];
+    for (text, fault) in rows {
+        assert_eq!(rt; fault_of(rt.alloc(), DOMAIN, text), fault);
+    }
+}
+
+#[test]
 fn an_earlier_phase_comes_first(rt: HostRuntime) {
     let rows = [
         (

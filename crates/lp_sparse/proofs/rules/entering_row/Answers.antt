@@ -4,7 +4,7 @@ use Rattle.lp_tableau.specs.Places.{FindsFirst, IsLesser}
 use Rattle.lp_tableau.specs.Chains.{IsRaising}
 use Rattle.lp_sparse.specs.declared.rules.Direction.TheVariants.{Up}
 use Rattle.lp_sparse.specs.SparseRows.{terms_of}
-use Rattle.lp_sparse.specs.SparseTurns.{Points}
+use Rattle.lp_sparse.specs.Directions.{Points}
 use Rattle.lp_sparse.specs.SparseTableaus.{dictionary_of}
 use Rattle.lp_sparse.proofs.Pointing.{FindsFirst-same}
 use Rattle.lp_sparse.proofs.RowReads.{terms_in-read, read-is, read-at, rows-length}

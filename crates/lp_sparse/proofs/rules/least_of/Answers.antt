@@ -3,7 +3,7 @@ use Rattle.std.proofs.lemmas.List.{take_all}
 use Rattle.rational.specs.Rational.{ℚ}
 use Rattle.lp_tableau.specs.Places.{FindsFirst, IsLesser}
 use Rattle.lp_sparse.specs.SparseRows.{terms_of}
-use Rattle.lp_sparse.specs.SparseTurns.{Points}
+use Rattle.lp_sparse.specs.Directions.{Points}
 use Rattle.lp_sparse.proofs.Coefficients.{length-terms_of, terms_of-at}
 use Rattle.lp_sparse.proofs.Pointing.{points-take, points-skip}
 use Rattle.lp_sparse.proofs.rules.least_of.Goals as goal

@@ -5,9 +5,9 @@ use Rattle.lp_tableau.specs.Meanings.{IsDictionary}
 use Rattle.lp_tableau.proofs.Rays.{IsDictionary-limited}
 use Rattle.lp_tableau.proofs.Choices.{Chooses-row, Chooses-column, Chooses-not_zero}
 use Rattle.lp_tableau.proofs.Keeping.{IsDictionary-pivoted}
-use Rattle.lp_tableau.proofs.Turning.{Leads-next}
+use Rattle.lp_tableau.proofs.Turning.{Leads-next, goes_on}
 use Rattle.lp_sparse.specs.SparseTableaus.{dictionary_of}
-use Rattle.lp_sparse.proofs.Walking.{not_made, stopped, turns_on}
+use Rattle.lp_sparse.proofs.Walking.{not_made, stopped}
 use Rattle.lp_sparse.proofs.walk.walk.Goals as goal
 
 pub next_turn-requires-clause-limited : goal.next_turn-requires-clause-limited
@@ -46,5 +46,5 @@ pub returns-in-Pivot-next_turn-clause-outcome : goal.returns-in-Pivot-next_turn-
 returns-in-Pivot-next_turn-clause-outcome g c = (
   refl,
   subst (λ (n : ℕ). Leads g.S.Scalar.limit (dictionary_of g.S.Scalar.value c.args.t.now) n (dictionary_of g.S.Scalar.value c.loop-made.t)) (let h : c.loop-made.made ≡ c.args.budget = omega arith in h) c.loop-made.invariant.1,
-  turns_on g.S.Scalar.limit _ c.next_turn-2.result c.loop-made.invariant.0.dictionary c.next_turn-2.ensures c.in-Pivot-next_turn.is,
+  goes_on g.S.Scalar.limit _ c.next_turn-2.result c.loop-made.invariant.0.dictionary c.next_turn-2.ensures c.in-Pivot-next_turn.is,
 )

@@ -1,0 +1,132 @@
+//! The value forms of fluents, and forms over fluents put into them.
+
+ghost use Rattle.std.specs.Prelude.{◌≡◌, ◌<◌, ◌≤◌, length};
+ghost use Rattle.task_types.specs.declared.parts.TaskParts.{TaskParts};
+ghost use Rattle.task_types.specs.WellMade.{IsWellMade};
+ghost use Rattle.rate_ledger.specs.Answers.{Makes};
+ghost use Rattle.rate_ledger.specs.Entries.{snap_at, entries, value_before, value_after, value_end};
+ghost use Rattle.rate_ledger.specs.Ledgers.{Keeps, IsTold};
+ghost use Rattle.rate_ledger.specs.Sums.{put};
+ghost use Rattle.rate_ledger.specs.Values.{value_sum};
+
+use crate::changes::latest;
+use crate::forms::{StepForm, constant, left, moved, with_scaled};
+use crate::ledgers::Ledger;
+use crate::snaps::{initial_value, snap_of};
+use crate::whens::When;
+use exact_lin::{FluentId, Form, FormFault, Fraction, Id, Scalar, StepId, VarId};
+use std::alloc::Global;
+use task_types::{Snap, Task};
+
+impl Ledger {
+    /// The snap action of a step.
+    pub fn snap<'a>(&self, task: &'a Task, step: StepId) -> &'a Snap
+        requires keeps { Keeps task.now.parts self.now }
+        requires step { step < length self.now.steps }
+        ensures { result.now ≡ snap_at task.now.parts self.now.steps step }
+    {
+        snap_of(task, self.steps.as_slice()[step.number() as usize])
+    }
+
+    /// The rate of a fluent since the last step that was taken.
+    pub fn rate(&self, fluent: FluentId) -> Fraction
+        ensures { (task : TaskParts) → IsWellMade task → Keeps task self.now → result ≡ (entries task self.now.steps (length self.now.changes) fluent).rate }
+    {
+        match latest(self.changes.as_slice(), fluent, self.changes.len()) {
+            Some(change) => change.rate,
+            None => Fraction::of_int(0),
+        }
+    }
+
+    /// What a fluent has before a step that was taken, or before the next one.
+    pub fn value_before(
+        &self,
+        alloc: Global,
+        task: &Task,
+        fluent: FluentId,
+        step: StepId,
+    ) -> Result<StepForm, FormFault>
+        requires keeps { Keeps task.now.parts self.now }
+        requires told { step ≤ length self.now.changes }
+        ensures { Makes result (value_before task.now.parts self.now.steps step fluent) }
+    {
+        match latest(self.changes.as_slice(), fluent, step.number() as usize) {
+            Some(change) => moved(change, VarId::of(step.number())),
+            None => Ok(constant(alloc, initial_value(task, fluent))),
+        }
+    }
+
+    /// What a fluent has after a step that was taken.
+    pub fn value_after(
+        &self,
+        alloc: Global,
+        task: &Task,
+        fluent: FluentId,
+        step: StepId,
+    ) -> Result<StepForm, FormFault>
+        requires keeps { Keeps task.now.parts self.now }
+        requires told { step < length self.now.changes }
+        ensures { Makes result (value_after task.now.parts self.now.steps step fluent) }
+    {
+        match latest(self.changes.as_slice(), fluent, step.number() as usize + 1) {
+            Some(change) => left(change, step),
+            None => Ok(constant(alloc, initial_value(task, fluent))),
+        }
+    }
+
+    /// What a fluent has at the end, where each step was taken and no action runs.
+    pub fn value_end(
+        &self,
+        alloc: Global,
+        task: &Task,
+        fluent: FluentId,
+    ) -> Result<StepForm, FormFault>
+        requires keeps { Keeps task.now.parts self.now }
+        requires told { length self.now.changes ≡ length self.now.steps }
+        ensures { Makes result (value_end task.now.parts self.now.steps fluent) }
+    {
+        match latest(self.changes.as_slice(), fluent, self.changes.len()) {
+            Some(change) => Ok(change.form.copy()?),
+            None => Ok(constant(alloc, initial_value(task, fluent))),
+        }
+    }
+
+    /// What a fluent has before a step, after it, or at the end.
+    pub fn value(
+        &self,
+        alloc: Global,
+        task: &Task,
+        fluent: FluentId,
+        when: &When,
+    ) -> Result<StepForm, FormFault>
+        requires keeps { Keeps task.now.parts self.now }
+        requires told { IsTold when.now self.now }
+        ensures { Makes result (value_sum task.now.parts self.now.steps when.now fluent) }
+    {
+        match when {
+            When::Before(step) => self.value_before(alloc, task, fluent, *step),
+            When::After(step) => self.value_after(alloc, task, fluent, *step),
+            When::AtEnd => self.value_end(alloc, task, fluent),
+        }
+    }
+
+    /// A form over fluents put into the forms of their values.
+    pub fn put(
+        &self,
+        alloc: Global,
+        task: &Task,
+        form: &Form<FluentId, Fraction>,
+        when: &When,
+    ) -> Result<StepForm, FormFault>
+        requires keeps { Keeps task.now.parts self.now }
+        requires told { IsTold when.now self.now }
+        ensures { Makes result (put (value_sum task.now.parts self.now.steps when.now) form.now) }
+    {
+        let mut sum = constant(alloc, form.constant());
+        for term in form.terms() {
+            let value = self.value(alloc, task, term.0, when)?;
+            sum = with_scaled(sum, term.1, &value)?;
+        }
+        Ok(sum)
+    }
+}

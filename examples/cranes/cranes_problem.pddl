@@ -1,0 +1,5 @@
+(define (problem quay)
+(:domain cranes)
+(:objects left right - crane red blue - box)
+(:init (idle left) (idle right) (on-quay red) (on-quay blue) (deck-free))
+(:goal (and (stowed red) (stowed blue))))

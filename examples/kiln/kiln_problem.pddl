@@ -1,0 +1,4 @@
+(define (problem pot)
+(:domain kiln)
+(:init (cold) (= (heat) 0))
+(:goal (fired)))

@@ -1,0 +1,5 @@
+(define (problem shift)
+(:domain plant)
+(:init (inflow-off) (outflow-off) (= (level) 5) (= (delivered) 0))
+(:goal (and (>= (delivered) 20) (>= (level) 10)))
+(:metric minimize (total-time)))
