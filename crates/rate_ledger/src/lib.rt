@@ -7,8 +7,10 @@ mod ends;
 mod forms;
 pub mod laws;
 mod ledgers;
+mod list_ledgers;
 mod nexts;
 mod rates;
+mod readings;
 mod running;
 mod snaps;
 #[cfg(test)]
@@ -16,4 +18,5 @@ mod tests;
 mod whens;
 
 pub use ledgers::Ledger;
+pub use list_ledgers::ListLedger;
 pub use whens::When;

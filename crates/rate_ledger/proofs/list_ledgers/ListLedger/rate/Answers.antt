@@ -1,7 +1,7 @@
 use Rattle.std.proofs.Common.{ap₂, ◌∙◌, arith}
 use Rattle.rate_ledger.specs.Ledgers.{latest}
 use Rattle.rate_ledger.proofs.Told.{rate_told, rate_first}
-use Rattle.rate_ledger.proofs.ledgers.Ledger.rate.Goals as goal
+use Rattle.rate_ledger.proofs.list_ledgers.ListLedger.rate.Goals as goal
 
 pub returns-in-Some : goal.returns-in-Some
 returns-in-Some c = λ task w k. rate_told task w c.args.self.now k c.args.fluent _ (omega arith) c.in-Some.change.now (c.in-Some.ensures ∙ ap₂ (latest c.args.fluent) c.as_slice.ensures c.len.ensures)

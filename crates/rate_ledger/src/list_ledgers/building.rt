@@ -8,7 +8,7 @@ ghost use Rattle.rate_ledger.specs.Reckoned.{AreDefined, step_made};
 
 use crate::amounts::changes_at;
 use crate::changes::Change;
-use crate::ledgers::Ledger;
+use crate::list_ledgers::ListLedger;
 use crate::nexts::{Next, next_step};
 use crate::running::running_after;
 use exact_lin::{FormFault, NoMemory, SnapId};
@@ -16,9 +16,9 @@ use sqlite_items::Items;
 use std::alloc::Global;
 use task_types::Task;
 
-impl Ledger {
+impl ListLedger {
     /// A ledger of a list of steps, none of which is taken.
-    pub fn new(alloc: Global, task: &Task, steps: &[SnapId]) -> Result<Ledger, NoMemory>
+    pub fn new(alloc: Global, task: &Task, steps: &[SnapId]) -> Result<ListLedger, NoMemory>
         requires few { length steps.now < 2 ^ 31 }
         requires in_range { AllByRecursion (λ s. s < length task.now.parts.snaps) steps.now }
         ensures keeps { IfOk result (λ l. Keeps task.now.parts l) }
@@ -26,7 +26,7 @@ impl Ledger {
     {
         let pending = running_after(alloc, task, steps)?;
         let steps = Items::from_slice(alloc, steps)?;
-        Ok(Ledger {
+        Ok(ListLedger {
             steps,
             pending,
             running: Items::new(alloc),

@@ -7,7 +7,7 @@ use Rattle.rate_ledger.specs.Reckoned.{AreDefined, step_made}
 use Rattle.rate_ledger.proofs.Changing.{due}
 use Rattle.rate_ledger.proofs.Failing.{hands_on, gives_more, either_way}
 use Rattle.rate_ledger.proofs.Keeping.{amounts_needed, changes_needed, step_made_whole, with_step, one_longer, Keeps-next}
-use Rattle.rate_ledger.proofs.ledgers.Ledger.push.Goals as goal
+use Rattle.rate_ledger.proofs.list_ledgers.ListLedger.push.Goals as goal
 
 pub returns-in_err-next-clause-answer : goal.returns-in_err-next-clause-answer
 returns-in_err-next-clause-answer c =

@@ -10,15 +10,16 @@ ghost use Rattle.rate_ledger.specs.Sums.{put};
 ghost use Rattle.rate_ledger.specs.Values.{value_sum};
 
 use crate::changes::latest;
-use crate::forms::{StepForm, constant, left, moved, with_scaled};
-use crate::ledgers::Ledger;
+use crate::forms::{StepForm, constant, with_scaled};
+use crate::list_ledgers::ListLedger;
+use crate::readings::{form_after, form_before, form_end};
 use crate::snaps::{initial_value, snap_of};
 use crate::whens::When;
-use exact_lin::{FluentId, Form, FormFault, Fraction, Id, Scalar, StepId, VarId};
+use exact_lin::{FluentId, Form, FormFault, Fraction, Id, Scalar, StepId};
 use std::alloc::Global;
 use task_types::{Snap, Task};
 
-impl Ledger {
+impl ListLedger {
     /// The snap action of a step.
     pub fn snap<'a>(&self, task: &'a Task, step: StepId) -> &'a Snap
         requires keeps { Keeps task.now.parts self.now }
@@ -50,10 +51,13 @@ impl Ledger {
         requires told { step ≤ length self.now.changes }
         ensures { Makes result (value_before task.now.parts self.now.steps step fluent) }
     {
-        match latest(self.changes.as_slice(), fluent, step.number() as usize) {
-            Some(change) => moved(change, VarId::of(step.number())),
-            None => Ok(constant(alloc, initial_value(task, fluent))),
-        }
+        form_before(
+            alloc,
+            self.changes.as_slice(),
+            initial_value(task, fluent),
+            fluent,
+            step,
+        )
     }
 
     /// What a fluent has after a step that was taken.
@@ -68,10 +72,13 @@ impl Ledger {
         requires told { step < length self.now.changes }
         ensures { Makes result (value_after task.now.parts self.now.steps step fluent) }
     {
-        match latest(self.changes.as_slice(), fluent, step.number() as usize + 1) {
-            Some(change) => left(change, step),
-            None => Ok(constant(alloc, initial_value(task, fluent))),
-        }
+        form_after(
+            alloc,
+            self.changes.as_slice(),
+            initial_value(task, fluent),
+            fluent,
+            step,
+        )
     }
 
     /// What a fluent has at the end, where each step was taken and no action runs.
@@ -85,10 +92,13 @@ impl Ledger {
         requires told { length self.now.changes ≡ length self.now.steps }
         ensures { Makes result (value_end task.now.parts self.now.steps fluent) }
     {
-        match latest(self.changes.as_slice(), fluent, self.changes.len()) {
-            Some(change) => Ok(change.form.copy()?),
-            None => Ok(constant(alloc, initial_value(task, fluent))),
-        }
+        let form = form_end(
+            alloc,
+            self.changes.as_slice(),
+            initial_value(task, fluent),
+            fluent,
+        )?;
+        Ok(form)
     }
 
     /// What a fluent has before a step, after it, or at the end.

@@ -4,7 +4,7 @@ use Rattle.rate_ledger.specs.Sums.{Number, form_of, CanMake, put}
 use Rattle.rate_ledger.specs.Values.{value_sum}
 use Rattle.rate_ledger.proofs.Failing.{hands_on}
 use Rattle.rate_ledger.proofs.Putting.{put_on, ArePut-next, ArePut-end, value_needed, sum_needed}
-use Rattle.rate_ledger.proofs.ledgers.Ledger.put.Goals as goal
+use Rattle.rate_ledger.proofs.list_ledgers.ListLedger.put.Goals as goal
 use Rattle.exact_lin.specs.Reckoning.{wide_limit}
 use Rattle.exact_lin.specs.Forms.{CanAddScaled}
 
