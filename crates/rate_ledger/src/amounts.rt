@@ -82,8 +82,8 @@ fn is_bent(task: &Task, snap: &Snap, fluent: FluentId) -> bool
     }
 }
 
-// Whether a step changes a fluent or its rate.
-fn is_changed(task: &Task, snap: &Snap, fluent: FluentId) -> bool
+/// Whether a step changes a fluent or its rate.
+pub fn is_changed(task: &Task, snap: &Snap, fluent: FluentId) -> bool
     ensures { result ≡ changes task.now.parts snap.now fluent }
 {
     either(is_written(snap, fluent), is_bent(task, snap, fluent))

@@ -17,6 +17,8 @@ mod snaps;
 mod tests;
 mod whens;
 
+pub use amounts::is_changed;
+pub use forms::with_term;
 pub use ledgers::Ledger;
 pub use list_ledgers::ListLedger;
 pub use whens::When;

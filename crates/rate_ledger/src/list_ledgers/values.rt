@@ -1,21 +1,22 @@
 //! The value forms of fluents, and forms over fluents put into them.
 
-ghost use Rattle.std.specs.Prelude.{◌≡◌, ◌<◌, ◌≤◌, length};
+ghost use Rattle.std.specs.Prelude.{◌≡◌, ◌<◌, ◌≤◌, length, IfSome, option_to_list};
 ghost use Rattle.task_types.specs.declared.parts.TaskParts.{TaskParts};
 ghost use Rattle.task_types.specs.WellMade.{IsWellMade};
 ghost use Rattle.rate_ledger.specs.Answers.{Makes};
-ghost use Rattle.rate_ledger.specs.Entries.{snap_at, entries, value_before, value_after, value_end};
+ghost use Rattle.rate_ledger.specs.Entries.{snap_at, own_start, entries, value_before, value_after, value_end};
 ghost use Rattle.rate_ledger.specs.Ledgers.{Keeps, IsTold};
 ghost use Rattle.rate_ledger.specs.Sums.{put};
 ghost use Rattle.rate_ledger.specs.Values.{value_sum};
 
 use crate::changes::latest;
+use crate::ends::own_start;
 use crate::forms::{StepForm, constant, with_scaled};
 use crate::list_ledgers::ListLedger;
 use crate::readings::{form_after, form_before, form_end};
 use crate::snaps::{initial_value, snap_of};
 use crate::whens::When;
-use exact_lin::{FluentId, Form, FormFault, Fraction, Id, Scalar, StepId};
+use exact_lin::{ActionId, FluentId, Form, FormFault, Fraction, Id, Scalar, StepId};
 use std::alloc::Global;
 use task_types::{Snap, Task};
 
@@ -27,6 +28,16 @@ impl ListLedger {
         ensures { result.now ≡ snap_at task.now.parts self.now.steps step }
     {
         snap_of(task, self.steps.as_slice()[step.number() as usize])
+    }
+
+    /// The step that started the action of a start or an end, with that action.
+    pub fn own_start(&self, task: &Task, step: StepId) -> Option<(StepId, ActionId)>
+        requires keeps { Keeps task.now.parts self.now }
+        requires step { step < length self.now.steps }
+        ensures value { option_to_list result ≡ own_start task.now.parts self.now.steps step }
+        ensures early { IfSome result (λ own. own.0 ≤ step) }
+    {
+        own_start(task, self.steps.as_slice(), step.number() as usize)
     }
 
     /// The rate of a fluent since the last step that was taken.
