@@ -5,10 +5,10 @@ use Rattle.rational.specs.Lists.{dot}
 use Rattle.exact_lin.specs.Forms.{Terms, AscendFrom, Covers, coefficient, terms_at}
 use Rattle.task_types.specs.Sets.{numbers}
 use Rattle.rate_ledger.specs.Sums.{sum_at}
-use Rattle.lp_rows.specs.StepRows.{RowOf, Compared, compared_row}
+use Rattle.lp_rows.specs.StepRows.{OriginRow, Compared, compared_row}
 
 -- a row is met at a point
-abbrev pub IsMet : RowOf → (ℕ → ℚ) → Type 0
+abbrev pub IsMet : OriginRow → (ℕ → ℚ) → Type 0
 IsMet r x = terms_at r.terms x ≤ℚ r.bound
 
 -- The row of a comparison is met at a point exactly where its sum is at least 0 there, or at most 0.

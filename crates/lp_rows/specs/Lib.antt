@@ -1,3 +1,5 @@
+pub mod Comparing
+pub mod Faulting
 pub mod Laws
 pub mod MadeRows
 pub mod MadeTasks

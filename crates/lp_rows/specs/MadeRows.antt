@@ -6,12 +6,12 @@ use Rattle.task_types.specs.Order.{is_built, is_closed}
 use Rattle.rate_ledger.specs.Sums.{form_of}
 use Rattle.lp_rows.specs.declared.origins.Origin.{Origin}
 use Rattle.lp_rows.specs.declared.origins.Origin.TheVariants as origin
-use Rattle.lp_rows.specs.StepRows.{RowOf}
+use Rattle.lp_rows.specs.StepRows.{OriginRow}
 use Rattle.lp_rows.specs.Terms.{SparseRow, PiecesTerm, ways_of_term}
 use Rattle.lp_rows.specs.Programs.{base_rows, metric_sum, prefix_rows}
 use Rattle.lp_rows.specs.MadeTasks.{plus, minus, form, made_rules, task_one, task_two, task_three, task_four, task_five, task_six}
 
-abbrev pub row : Terms → ℚ → Origin → RowOf
+abbrev pub row : Terms → ℚ → Origin → OriginRow
 row terms bound o = record { terms = terms; bound = bound; origin = o }
 
 abbrev pub sparse : Terms → ℚ → SparseRow

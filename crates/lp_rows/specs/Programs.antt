@@ -26,10 +26,10 @@ use Rattle.rate_ledger.specs.Reckoned.{Made, OfForm, AreDefined}
 use Rattle.lp_rows.specs.declared.origins.Origin.TheVariants as origin
 use Rattle.lp_rows.specs.declared.origins.Place.{Place}
 use Rattle.lp_rows.specs.declared.origins.Place.TheVariants as place
-use Rattle.lp_rows.specs.StepRows.{RowOf, Compared, compared_row, linked_row, horizon_row, bound_compared, has_fluents, step_rows, step_reckoned}
+use Rattle.lp_rows.specs.StepRows.{OriginRow, Compared, compared_row, linked_row, horizon_row, bound_compared, has_fluents, step_rows, step_reckoned}
 use Rattle.lp_rows.specs.Terms.{SparseRow, first_held, Term, WithinTerm, Part, parts, terms_of_part, paid_of_part, part_reckoned, late_weights, WayOf, ways_of_term, term_reckoned, is_free, CanTell}
 
-abbrev pub without_origin : RowOf → SparseRow
+abbrev pub without_origin : OriginRow → SparseRow
 without_origin r = record { terms = r.terms; bound = r.bound }
 
 -- a row with one factor for each of some variables
@@ -41,20 +41,20 @@ dense size r = record { factors = map (coefficient r.terms) (numbers size); boun
 abbrev pub goal_compared : TaskParts → List ℕ → List Compared
 goal_compared task steps = map (λ e. record { sum = put (value_end task steps) e.1; at_least = true; origin = origin.Goal e.0 }) (enumerate_from (suc (length task.goal.literals)) task.goal.comparisons)
 
-abbrev pub soon_rows : ℕ → ℚ → Option ℕ → List RowOf
+abbrev pub soon_rows : ℕ → ℚ → Option ℕ → List OriginRow
 soon_rows c t None = []
 soon_rows c t (Some zero) = []
 soon_rows c t (Some (suc k)) = record { terms = (k, oneℚ) ∷ []; bound = t; origin = origin.Constraint c } ∷ []
 
-abbrev pub hard_rows : TaskParts → List ℕ → ℕ → TrailKind → Trail → List RowOf
+abbrev pub hard_rows : TaskParts → List ℕ → ℕ → TrailKind → Trail → List OriginRow
 hard_rows task steps c Within h = soon_rows c h.moment (first_held task steps h.first)
 hard_rows task steps c kind h = []
 
-abbrev pub constraint_rows : TaskParts → List ℕ → List RowOf
+abbrev pub constraint_rows : TaskParts → List ℕ → List OriginRow
 constraint_rows task steps = flat_map (λ h. hard_rows task steps h.0 h.1.kind h.1) (enumerate_from 1 task.hard)
 
 -- the rows of a closed ordering that need no decision; the variable after the steps is the total time
-unfoldable pub base_rows : TaskParts → Rules → Order → List RowOf
+unfoldable pub base_rows : TaskParts → Rules → Order → List OriginRow
 base_rows task rules o = flat_map (step_rows task rules o (length o.steps)) (numbers (length o.steps)) ++ map compared_row (goal_compared task o.steps) ++ constraint_rows task o.steps
 
 -- ---- terms, cost and base
@@ -143,7 +143,7 @@ abbrev pub pending_compared : TaskParts → List ℕ → ℕ → ℕ → List Co
 pending_compared task steps v a = map (bound_compared task steps (start_number task a 0 steps 0) v v) (pending_bounds task a)
 
 -- the rows of the pending end of a running action: its links with the steps of the list, its horizon, its bounds
-abbrev pub pending_rows : TaskParts → Rules → List ℕ → ℕ × ℕ → List RowOf
+abbrev pub pending_rows : TaskParts → Rules → List ℕ → ℕ × ℕ → List OriginRow
 pending_rows task rules steps p =
     flat_map (λ i. linked_row rules (link task (snap_at task steps i) (snap_of task (end_of_action task p.1))) i p.0 (origin.Pair (suc i) (suc p.0))) (numbers (length steps))
     ++ horizon_row rules p.0 ∷ map compared_row (pending_compared task steps p.0 p.1)
@@ -152,7 +152,7 @@ pending_rows task rules steps p =
 abbrev pub pending : TaskParts → List ℕ → List (ℕ × ℕ)
 pending task steps = enumerate_from (length steps) (running task steps)
 
-unfoldable pub prefix_rows : TaskParts → Rules → List ℕ → List RowOf
+unfoldable pub prefix_rows : TaskParts → Rules → List ℕ → List OriginRow
 prefix_rows task rules steps =
     flat_map (step_rows task rules (without_pairs steps) (length steps + length (running task steps))) (numbers (length steps))
     ++ flat_map (pending_rows task rules steps) (pending task steps)

@@ -22,13 +22,8 @@ use Rattle.rate_ledger.specs.Sums.{FormSum, PlusTerm, form_of, put}
 use Rattle.rate_ledger.specs.Entries.{snap_at, own_start, value_before, value_after}
 use Rattle.rate_ledger.specs.Reckoned.{Made, OfForm, step_made}
 use Rattle.lp_rows.specs.declared.origins.Origin.{Origin}
+pub use Rattle.lp_rows.specs.declared.rows.OriginRow.{OriginRow}
 use Rattle.lp_rows.specs.declared.origins.Origin.TheVariants as origin
-
--- A row: the sum of its terms, at most its bound.
-pub record RowOf : Type 0 where
-  pub terms : Terms
-  pub bound : ℚ
-  pub origin : Origin
 
 -- A comparison that makes a row: a sum that is to be at least 0, or at most 0, and the row's origin.
 pub record Compared : Type 0 where
@@ -40,7 +35,7 @@ abbrev pub negated : Terms → Terms
 negated ts = map (λ t. (t.0, neg_ℚ t.1)) ts
 
 -- A form that is at least 0 is the row `- terms ≤ constant`; one that is at most 0 is `terms ≤ - constant`.
-abbrev pub compared_row : Compared → RowOf
+abbrev pub compared_row : Compared → OriginRow
 compared_row c =
     if c.at_least then record { terms = negated (form_of c.sum).terms; bound = (form_of c.sum).constant; origin = c.origin }
     else record { terms = (form_of c.sum).terms; bound = neg_ℚ (form_of c.sum).constant; origin = c.origin }
@@ -48,10 +43,10 @@ compared_row c =
 -- ---- 1: links
 
 -- variable i comes before variable j, with this much between
-abbrev pub before_row : ℕ → ℕ → ℚ → Origin → RowOf
+abbrev pub before_row : ℕ → ℕ → ℚ → Origin → OriginRow
 before_row i j room o = record { terms = (i, oneℚ) ∷ (j, neg_ℚ oneℚ) ∷ []; bound = neg_ℚ room; origin = o }
 
-abbrev pub linked_row : Rules → Link → ℕ → ℕ → Origin → List RowOf
+abbrev pub linked_row : Rules → Link → ℕ → ℕ → Origin → List OriginRow
 linked_row rules Free i j o = []
 linked_row rules Weak i j o = before_row i j zeroℚ o ∷ []
 linked_row rules Apart i j o = before_row i j rules.epsilon o ∷ []
@@ -59,12 +54,12 @@ linked_row rules Apart i j o = before_row i j rules.epsilon o ∷ []
 abbrev pub is_extra : Order → ℕ → ℕ → Bool
 is_extra o i j = list_any (λ p. (p.0 == i) && (p.1 == j)) o.extra
 
-abbrev pub link_row : TaskParts → Rules → Order → ℕ → ℕ → List RowOf
+abbrev pub link_row : TaskParts → Rules → Order → ℕ → ℕ → List OriginRow
 link_row task rules o i j =
     if is_extra o i j then linked_row rules Apart i j (origin.Extra (suc i) (suc j))
     else linked_row rules (link task (snap_at task o.steps i) (snap_at task o.steps j)) i j (origin.Pair (suc i) (suc j))
 
-abbrev pub link_rows : TaskParts → Rules → Order → ℕ → List RowOf
+abbrev pub link_rows : TaskParts → Rules → Order → ℕ → List OriginRow
 link_rows task rules o j = flat_map (λ i. link_row task rules o i j) (numbers j)
 
 -- ---- 2 to 4: a timed step's moment; a plan step's horizon and the total time
@@ -72,16 +67,16 @@ link_rows task rules o j = flat_map (λ i. link_row task rules o i j) (numbers j
 abbrev pub moments_of : TaskParts → ℕ → List ℚ
 moments_of task s = map (λ m. m.0) (filter (λ m. m.1 == s) task.timed)
 
-abbrev pub moment_rows : ℕ → ℚ → List RowOf
+abbrev pub moment_rows : ℕ → ℚ → List OriginRow
 moment_rows j t = record { terms = (j, oneℚ) ∷ []; bound = t; origin = origin.NoLater (suc j) } ∷ record { terms = (j, neg_ℚ oneℚ) ∷ []; bound = neg_ℚ t; origin = origin.NoEarlier (suc j) } ∷ []
 
-abbrev pub horizon_row : Rules → ℕ → RowOf
+abbrev pub horizon_row : Rules → ℕ → OriginRow
 horizon_row rules j = record { terms = (j, oneℚ) ∷ []; bound = rules.horizon; origin = origin.Horizon (suc j) }
 
-abbrev pub last_row : ℕ → ℕ → RowOf
+abbrev pub last_row : ℕ → ℕ → OriginRow
 last_row last j = record { terms = (j, oneℚ) ∷ (last, neg_ℚ oneℚ) ∷ []; bound = zeroℚ; origin = origin.Last (suc j) }
 
-abbrev pub placed_rows : TaskParts → Rules → ℕ → ℕ → ℕ → List RowOf
+abbrev pub placed_rows : TaskParts → Rules → ℕ → ℕ → ℕ → List OriginRow
 placed_rows task rules last j s = if is_timed (snap_of task s).kind then flat_map (moment_rows j) (moments_of task s) else (horizon_row rules j ∷ last_row last j ∷ [])
 
 -- ---- 5: durations
@@ -162,7 +157,7 @@ watch_compared task steps j =
 abbrev pub step_compared : TaskParts → List ℕ → ℕ → List Compared
 step_compared task steps j = duration_compared task steps j ++ own_compared task steps j ++ watch_compared task steps j
 
-abbrev pub step_rows : TaskParts → Rules → Order → ℕ → ℕ → List RowOf
+abbrev pub step_rows : TaskParts → Rules → Order → ℕ → ℕ → List OriginRow
 step_rows task rules o last j = link_rows task rules o j ++ placed_rows task rules last j (slice_index o.steps j) ++ map compared_row (step_compared task o.steps j)
 
 -- what belongs to step j: its effects and values, then its comparisons

@@ -17,7 +17,7 @@ use Rattle.task_types.specs.Touch.{bent_fluents}
 use Rattle.task_types.specs.Order.{running}
 use Rattle.ordering.specs.Along.{changes}
 use Rattle.rate_ledger.specs.declared.changes.Change.{Change}
-use Rattle.rate_ledger.specs.declared.ledgers.Ledger.{Ledger}
+use Rattle.rate_ledger.specs.declared.list_ledgers.ListLedger.{ListLedger}
 use Rattle.rate_ledger.specs.declared.nexts.Next.{Next}
 use Rattle.rate_ledger.specs.Answers.{Gives}
 use Rattle.rate_ledger.specs.Sums.{form_of, CanMake}
@@ -70,7 +70,7 @@ module _ (task : TaskParts) (steps : List ℕ) (k f : ℕ) where
 abbrev pub change : ℕ → ℕ → LinearForm → ℚ → Change
 change f k form rate = record { fluent = f; step = k; form = form; rate = rate }
 
-module _ (task : TaskParts) (l : Ledger) (n : Next) (next : IsNext task l n) (f : ℕ) where
+module _ (task : TaskParts) (l : ListLedger) (n : Next) (next : IsNext task l n) (f : ℕ) where
   pub form_is : form_of (changed_form task l.steps n.step (value_before task l.steps n.step) f) ≡ added_picked f (last_picked f (form_of (value_before task l.steps n.step f)) n.assigns) n.increases
   form_is = added_is f (amount_sum task l.steps n.step (value_before task l.steps n.step)) (last_sum (value_before task l.steps n.step f) (map (amount_sum task l.steps n.step (value_before task l.steps n.step)) (entries_of f (snap_at task l.steps n.step).effect.assigns))) (snap_at task l.steps n.step).effect.increases
       ∙ ap₂ (λ (x : LinearForm) (es : List (ℕ × LinearForm)). added_picked f x es)

@@ -13,7 +13,7 @@ use Rattle.task_types.proofs.Everyone.{all_of_map}
 use Rattle.task_types.proofs.Places.{map-numbers-more}
 use Rattle.task_types.proofs.StepCounts.{running-more}
 use Rattle.rate_ledger.specs.declared.changes.Change.{Change}
-use Rattle.rate_ledger.specs.declared.ledgers.Ledger.{Ledger}
+use Rattle.rate_ledger.specs.declared.list_ledgers.ListLedger.{ListLedger}
 use Rattle.rate_ledger.specs.declared.nexts.Next.{Next}
 use Rattle.rate_ledger.specs.Entries.{snap_at, amount_sum, value_before}
 use Rattle.rate_ledger.specs.Ledgers.{Keeps, changes_at}
@@ -62,13 +62,13 @@ module _ (task : TaskParts) (steps : List ℕ) (k : ℕ) where
 
 -- ---- the ledger with the step
 
-abbrev pub with_step : Ledger → Next → List Change → Ledger
+abbrev pub with_step : ListLedger → Next → List Change → ListLedger
 with_step l n made = record l { running = n.running; changes = l.changes ++ made ∷ [] }
 
-pub one_longer : (l : Ledger) (made : List Change) → length (l.changes ++ made ∷ []) ≡ suc (length l.changes)
+pub one_longer : (l : ListLedger) (made : List Change) → length (l.changes ++ made ∷ []) ≡ suc (length l.changes)
 one_longer l made = let e : length (l.changes ++ made ∷ []) ≡ length l.changes + 1 = length-append l.changes (made ∷ []) in omega (arith, e)
 
-module _ (task : TaskParts) (l : Ledger) (keeps : Keeps task l) (n : Next) (next : IsNext task l n) (more : length l.changes < length l.steps) (made : List Change) where
+module _ (task : TaskParts) (l : ListLedger) (keeps : Keeps task l) (n : Next) (next : IsNext task l n) (more : length l.changes < length l.steps) (made : List Change) where
   -- with the changes of the step, where all of it is defined
   pub step_made_whole : CanMakeAmounts task l.steps (length l.changes) ((snap_at task l.steps (length l.changes)).effect.assigns ++ (snap_at task l.steps (length l.changes)).effect.increases)
       → AreDefined (due task l.steps n.step (numbers (length task.fluents))) → AreDefined (step_made task l.steps (length l.changes))

@@ -17,3 +17,4 @@ pub mod Spanned
 pub mod Spans
 pub mod Summing
 pub mod Told
+pub mod WholeLists

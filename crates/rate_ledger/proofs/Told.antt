@@ -1,5 +1,5 @@
 -- What the last change of a fluent tells of its value forms.
-use Rattle.std.proofs.Common.{◌≡◌, refl, sym, ap, subst, ◌∙◌, ℕ, zero, suc, ◌+◌, ◌<◌, ◌≤◌, Bool, true, false, ◌==◌, List, ◌∷◌, ◌++◌, map, length, arith, Some, None, Result, Ok, Err}
+use Rattle.std.proofs.Common.{◌≡◌, refl, sym, ap, ap₂, subst, ◌∙◌, ℕ, zero, suc, ◌+◌, ◌<◌, ◌≤◌, Bool, true, false, ◌==◌, List, ◌∷◌, ◌++◌, map, length, arith, Option, Some, None, Result, Ok, Err}
 use Rattle.std.specs.Prelude.{if◌then◌else◌, slice_index}
 use Rattle.std.specs.List.{list_all, filter, flat_map, range_with_len, AllByRecursion}
 use Rattle.std.proofs.lemmas.Bool.Decides.{nat_tests}
@@ -20,14 +20,14 @@ use Rattle.basics.proofs.Bools.{and_right}
 use Rattle.task_types.proofs.Everyone.{all_of_flat_map}
 use Rattle.ordering.specs.Along.{changes}
 use Rattle.rate_ledger.specs.declared.changes.Change.{Change}
-use Rattle.rate_ledger.specs.declared.ledgers.Ledger.{Ledger}
+use Rattle.rate_ledger.specs.declared.list_ledgers.ListLedger.{ListLedger}
 use Rattle.rate_ledger.specs.Answers.{Gives, Makes}
-use Rattle.rate_ledger.specs.Sums.{FormSum, PlusTerm, form_of, CanMake}
+use Rattle.rate_ledger.specs.Sums.{FormSum, Number, PlusTerm, form_of, CanMake}
 use Rattle.rate_ledger.specs.Entries.{snap_at, amount_sum, moved_from, moved_sum, changed_entry, entries, value_before, value_after, value_end}
 use Rattle.rate_ledger.specs.Ledgers.{Keeps, latest}
-use Rattle.rate_ledger.specs.Moving.{moved_form, CanMove, left_form, CanLeave}
+use Rattle.rate_ledger.specs.Moving.{moved_form, CanMove, left_form, CanLeave, form_before, form_after, form_end, CanTellBefore, CanTellAfter}
 use Rattle.rate_ledger.specs.Reckoned.{OfForm, IsDefined, AreDefined, change_made}
-use Rattle.rate_ledger.proofs.Latest.{first_entry, IsLast, last_is}
+use Rattle.rate_ledger.proofs.Latest.{IsLast, last_is}
 
 -- each number below n that passes a test has what all that pass have
 of_number : (Q : ℕ → Type 0) (p : ℕ → Bool) (f n i : ℕ) → AllByRecursion Q (filter p (range_with_len i n)) → p f ≡ true → i ≤ f → f < i + n → Q f
@@ -49,6 +49,9 @@ of_number Q p f (suc n) i a e l h = go (i == f) refl (p i) refl a (λ b m. of_nu
 some_same : (a b : ℕ) → Some a ≡ Some b → b ≡ a
 some_same a b e = cc
 
+some_is_there : (a : ℕ) → Some a ≡ None → ⊥
+some_is_there a e = cc
+
 same_not : (a b : ℕ) → ¬ (a ≡ b) → (a == b) ≡ false
 same_not a b n = grind (arith, nat_tests, n)
 
@@ -57,7 +60,7 @@ pub after_changed : (task : TaskParts) (steps : List ℕ) (k f : ℕ) → change
 unfolding value_after
 after_changed task steps k f e = ap (λ b. if b then (if b then changed_entry task steps k (entries task steps k) f else entries task steps k f).form else moved_sum (entries task steps k f) k) e
 
-module _ (task : TaskParts) (w : IsWellMade task) (l : Ledger) (k : Keeps task l) (f : ℕ) where
+module _ (task : TaskParts) (w : IsWellMade task) (l : ListLedger) (k : Keeps task l) (f : ℕ) where
   in_range : (j : ℕ) → changes task (snap_at task l.steps j) f ≡ true → f < length task.fluents
   in_range j e = changed_below task (snap_of_fits task (and_right (is_short task.snaps) (list_all (snap_fits task) task.snaps) w.snaps)) (slice_index l.steps j) f e
 
@@ -83,9 +86,10 @@ module _ (task : TaskParts) (w : IsWellMade task) (l : Ledger) (k : Keeps task l
 
   -- ---- forms
 
-  pub never_before : (n : ℕ) (form : LinearForm) → n ≤ length l.changes → None ≡ latest f l.changes n → form ≡ constant_form ((initial task).fluents f) → Makes (Ok form) (value_before task l.steps n f)
-  unfolding value_before
-  never_before n form h e q = subst (λ x. Makes (Ok form) (moved_sum x n)) (sym (subst (IsLast task l.steps f n) (sym e) (last_change n h))) (tt, q)
+  plainly : (r : Result LinearForm FormFault) (sum : FormSum) (form : LinearForm) → CanMake sum → form ≡ form_of sum → Gives r (Unit {0}) (λ x. x ≡ form) → Makes r sum
+  plainly (Ok x) sum form m q g = (m, g.1 ∙ q)
+  plainly (Err Wide) sum form m q g = λ k. g tt
+  plainly (Err Memory) sum form m q g = tt
 
   moved_made : (r : Result LinearForm FormFault) (c : Change) (n j : ℕ) (sum : FormSum) (rate : ℚ) → CanMake sum → c.form ≡ form_of sum → c.rate ≡ rate → c.step ≡ j → Gives r (CanMove c n) (λ x. x ≡ moved_form c n) → Makes r (moved_from sum rate (Some j) n)
   moved_made r c n j sum rate can a b d g = told r (subst (λ i. Gives r (CanAddTerm wide_limit (form_of sum) n rate × CanAddTerm wide_limit (plus_term (form_of sum) n rate) i (neg_ℚ rate)) (λ x. x ≡ plus_term (plus_term (form_of sum) n rate) i (neg_ℚ rate))) d
@@ -97,21 +101,17 @@ module _ (task : TaskParts) (w : IsWellMade task) (l : Ledger) (k : Keeps task l
       told (Err Wide) g = λ m. g (m.0.1, m.1)
       told (Err Memory) g = tt
 
-  pub moved_before : (r : Result LinearForm FormFault) (n : ℕ) (c : Change) → n ≤ length l.changes → Some c ≡ latest f l.changes n → Gives r (CanMove c n) (λ x. x ≡ moved_form c n) → Makes r (value_before task l.steps n f)
+  pub before_made : (r : Result LinearForm FormFault) (n : ℕ) (rows : List (List Change)) (q : ℚ) → n ≤ length l.changes → rows ≡ l.changes → q ≡ (initial task).fluents f
+      → Gives r (CanTellBefore (latest f rows n) n) (λ x. x ≡ form_before q (latest f rows n) n) → Makes r (value_before task l.steps n f)
   unfolding value_before
-  moved_before r n c h e g = go (subst (IsLast task l.steps f n) (sym e) (last_change n h))
+  before_made r n rows q h e d g = go (latest f l.changes n) (last_change n h)
+      (subst (λ q. Gives r (CanTellBefore (latest f l.changes n) n) (λ x. x ≡ form_before q (latest f l.changes n) n)) d
+      (subst (λ (rows : List (List Change)). Gives r (CanTellBefore (latest f rows n) n) (λ x. x ≡ form_before q (latest f rows n) n)) e g))
     where
-      go : IsLast task l.steps f n (Some c) → Makes r (moved_sum (entries task l.steps n f) n)
-      go i = subst (λ x. Makes r (moved_sum x n)) (sym i.1.3)
+      go : (o : Option Change) → IsLast task l.steps f n o → Gives r (CanTellBefore o n) (λ x. x ≡ form_before ((initial task).fluents f) o n) → Makes r (moved_sum (entries task l.steps n f) n)
+      go None i g = subst (λ e. Makes r (moved_sum e n)) (sym i) (plainly r (Number ((initial task).fluents f)) (constant_form ((initial task).fluents f)) tt refl g)
+      go (Some c) i g = subst (λ e. Makes r (moved_sum e n)) (sym i.1.3)
           (moved_made r c n i.0 (changed_entry task l.steps i.0 (entries task l.steps i.0) f).form (changed_entry task l.steps i.0 (entries task l.steps i.0) f).rate (can_make i.0 (omega (arith, i.1.0, h)) i.1.1) (ap (λ x. x.form) i.1.2) (ap (λ x. x.rate) i.1.2) (ap (λ x. x.step) i.1.2) g)
-
-  pub never_after : (n : ℕ) (form : LinearForm) → n < length l.changes → None ≡ latest f l.changes (suc n) → form ≡ constant_form ((initial task).fluents f) → Makes (Ok form) (value_after task l.steps n f)
-  unfolding value_after
-  never_after n form h e q = go (changes task (snap_at task l.steps n) f) refl (subst (IsLast task l.steps f (suc n)) (sym e) (last_change (suc n) (omega (arith, h))))
-    where
-      go : (b : Bool) → changes task (snap_at task l.steps n) f ≡ b → (if b then changed_entry task l.steps n (entries task l.steps n) f else entries task l.steps n f) ≡ first_entry task f → Makes (Ok form) (if b then (if b then changed_entry task l.steps n (entries task l.steps n) f else entries task l.steps n f).form else moved_sum (entries task l.steps n f) n)
-      go true d x = subst (λ y. Makes (Ok form) y.form) (sym x) (tt, q)
-      go false d x = subst (λ y. Makes (Ok form) (moved_sum y n)) (sym x) (tt, q)
 
   -- a step that changed the fluent last left it what it made
   made_last : (n : ℕ) (c : Change) → n < length l.changes → changes task (snap_at task l.steps n) f ≡ true → IsLast task l.steps f (suc n) (Some c) → (c.step ≡ n) × (c.form ≡ form_of (changed_entry task l.steps n (entries task l.steps n) f).form)
@@ -123,35 +123,44 @@ module _ (task : TaskParts) (w : IsWellMade task) (l : Ledger) (k : Keeps task l
       same : i.0 ≡ n
       same = some_same n i.0 since
 
-  pub left_after : (r : Result LinearForm FormFault) (n : ℕ) (c : Change) → n < length l.changes → Some c ≡ latest f l.changes (suc n) → Gives r (CanLeave (c.step == n) c n) (λ x. x ≡ left_form (c.step == n) c n) → Makes r (value_after task l.steps n f)
+  not_changed : (n : ℕ) → changes task (snap_at task l.steps n) f ≡ false → (entries task l.steps (suc n) f ≡ entries task l.steps n f) × (value_after task l.steps n f ≡ moved_sum (entries task l.steps n f) n)
   unfolding value_after
-  left_after r n c h e g = go (changes task (snap_at task l.steps n) f) refl (subst (IsLast task l.steps f (suc n)) (sym e) (last_change (suc n) (omega (arith, h))))
+  not_changed n d = (
+    ap (λ b. if b then changed_entry task l.steps n (entries task l.steps n) f else entries task l.steps n f) d,
+    ap (λ b. if b then (if b then changed_entry task l.steps n (entries task l.steps n) f else entries task l.steps n f).form else moved_sum (entries task l.steps n f) n) d,
+  )
+
+  pub after_made : (r : Result LinearForm FormFault) (n : ℕ) (rows : List (List Change)) (q : ℚ) → n < length l.changes → rows ≡ l.changes → q ≡ (initial task).fluents f
+      → Gives r (CanTellAfter (latest f rows (n + 1)) n) (λ x. x ≡ form_after q (latest f rows (n + 1)) n) → Makes r (value_after task l.steps n f)
+  after_made r n rows q h e d g = go (changes task (snap_at task l.steps n) f) refl (latest f l.changes (suc n)) (last_change (suc n) (omega (arith, h)))
+      (subst (λ q. Gives r (CanTellAfter (latest f l.changes (suc n)) n) (λ x. x ≡ form_after q (latest f l.changes (suc n)) n)) d
+      (subst (λ k. Gives r (CanTellAfter (latest f l.changes k) n) (λ x. x ≡ form_after q (latest f l.changes k) n)) next
+      (subst (λ (rows : List (List Change)). Gives r (CanTellAfter (latest f rows (n + 1)) n) (λ x. x ≡ form_after q (latest f rows (n + 1)) n)) e g)))
     where
-      told : (r : Result LinearForm FormFault) (sum : FormSum) → CanMake sum → c.form ≡ form_of sum → Gives r (Unit {0}) (λ x. x ≡ c.form) → Makes r sum
-      told (Ok x) sum m q g = (m, g.1 ∙ q)
-      told (Err Wide) sum m q g = λ k. g tt
-      told (Err Memory) sum m q g = tt
+      next : n + 1 ≡ suc n
+      next = omega arith
 
-      earlier : changes task (snap_at task l.steps n) f ≡ false → (i : IsLast task l.steps f (suc n) (Some c)) → ¬ (c.step ≡ n)
-      earlier d i s = let k : true ≡ false = sym i.1.1 ∙ ap (λ j. changes task (snap_at task l.steps j) f) (sym (ap (λ x. x.step) i.1.2) ∙ s) ∙ d in cc
+      earlier : changes task (snap_at task l.steps n) f ≡ false → (c : Change) → IsLast task l.steps f (suc n) (Some c) → ¬ (c.step ≡ n)
+      earlier d c i s = let k : true ≡ false = sym i.1.1 ∙ ap (λ j. changes task (snap_at task l.steps j) f) (sym (ap (λ x. x.step) i.1.2) ∙ s) ∙ d in cc
 
-      go : (b : Bool) → changes task (snap_at task l.steps n) f ≡ b → (i : IsLast task l.steps f (suc n) (Some c)) → Makes r (value_after task l.steps n f)
-      go true d i = let m = made_last n c h d i in
+      go : (b : Bool) → changes task (snap_at task l.steps n) f ≡ b → (o : Option Change) → IsLast task l.steps f (suc n) o → Gives r (CanTellAfter o n) (λ x. x ≡ form_after ((initial task).fluents f) o n) → Makes r (value_after task l.steps n f)
+      go true d None i g = let k : Some n ≡ None = ap (λ x. x.since) (sym (ap (λ b. if b then changed_entry task l.steps n (entries task l.steps n) f else entries task l.steps n f) d) ∙ i) in absurd (some_is_there n k)
+      go true d (Some c) i g = let m = made_last n c h d i in
           subst (λ sum. Makes r sum) (sym (after_changed task l.steps n f d))
-          (told r (changed_entry task l.steps n (entries task l.steps n) f).form (can_make n h d) m.1 (subst (λ b. Gives r (CanLeave b c n) (λ x. x ≡ left_form b c n)) (same_in c.step n m.0) g))
-      go false d i = subst (λ sum. Makes r sum) (sym (ap (λ b. if b then (if b then changed_entry task l.steps n (entries task l.steps n) f else entries task l.steps n f).form else moved_sum (entries task l.steps n f) n) d))
-          (subst (λ x. Makes r (moved_sum x n)) (sym (sym (ap (λ b. if b then changed_entry task l.steps n (entries task l.steps n) f else entries task l.steps n f) d) ∙ i.1.3))
+          (plainly r (changed_entry task l.steps n (entries task l.steps n) f).form c.form (can_make n h d) m.1 (subst (λ b. Gives r (CanLeave b c n) (λ x. x ≡ left_form b c n)) (same_in c.step n m.0) g))
+      go false d None i g = let k = not_changed n d in
+          subst (λ sum. Makes r sum) (sym k.1) (subst (λ e. Makes r (moved_sum e n)) (sym (sym k.0 ∙ i)) (plainly r (Number ((initial task).fluents f)) (constant_form ((initial task).fluents f)) tt refl g))
+      go false d (Some c) i g = let k = not_changed n d in
+          subst (λ sum. Makes r sum) (sym k.1) (subst (λ x. Makes r (moved_sum x n)) (sym (sym k.0 ∙ i.1.3))
           (moved_made r c n i.0 (changed_entry task l.steps i.0 (entries task l.steps i.0) f).form (changed_entry task l.steps i.0 (entries task l.steps i.0) f).rate (can_make i.0 (omega (arith, i.1.0, h)) i.1.1) (ap (λ x. x.form) i.1.2) (ap (λ x. x.rate) i.1.2) (ap (λ x. x.step) i.1.2)
-          (subst (λ b. Gives r (CanLeave b c n) (λ x. x ≡ left_form b c n)) (same_not c.step n (earlier d i)) g)))
+          (subst (λ b. Gives r (CanLeave b c n) (λ x. x ≡ left_form b c n)) (same_not c.step n (earlier d c i)) g)))
 
-  pub left_end : (form : LinearForm) (c : Change) → length l.changes ≡ length l.steps → Some c ≡ latest f l.changes (length l.changes) → form ≡ c.form → Makes (Ok form) (value_end task l.steps f)
+  pub end_made : (form : LinearForm) (rows : List (List Change)) (q : ℚ) → length l.changes ≡ length l.steps → rows ≡ l.changes → q ≡ (initial task).fluents f
+      → form ≡ form_end q (latest f rows (length rows)) → Makes (Ok form) (value_end task l.steps f)
   unfolding value_end
-  left_end form c h e q = go (subst (IsLast task l.steps f (length l.changes)) (sym e) (last_change (length l.changes) (omega arith)))
+  end_made form rows q h e d g = subst (λ n. Makes (Ok form) (entries task l.steps n f).form) h (go (latest f l.changes (length l.changes)) (last_change (length l.changes) (omega arith))
+      (g ∙ ap₂ (λ (q : ℚ) (rows : List (List Change)). form_end q (latest f rows (length rows))) d e))
     where
-      go : IsLast task l.steps f (length l.changes) (Some c) → Makes (Ok form) (entries task l.steps (length l.steps) f).form
-      go i = subst (λ n. Makes (Ok form) (entries task l.steps n f).form) h (subst (λ x. Makes (Ok form) x.form) (sym i.1.3) (can_make i.0 i.1.0 i.1.1, q ∙ ap (λ x. x.form) i.1.2))
-
-  pub never_end : (form : LinearForm) → length l.changes ≡ length l.steps → None ≡ latest f l.changes (length l.changes) → form ≡ constant_form ((initial task).fluents f) → Makes (Ok form) (value_end task l.steps f)
-  unfolding value_end
-  never_end form h e q = subst (λ n. Makes (Ok form) (entries task l.steps n f).form) h
-      (subst (λ x. Makes (Ok form) x.form) (sym (subst (IsLast task l.steps f (length l.changes)) (sym e) (last_change (length l.changes) (omega arith)))) (tt, q))
+      go : (o : Option Change) → IsLast task l.steps f (length l.changes) o → form ≡ form_end ((initial task).fluents f) o → Makes (Ok form) (entries task l.steps (length l.changes) f).form
+      go None i q = subst (λ x. Makes (Ok form) x.form) (sym i) (tt, q)
+      go (Some c) i q = subst (λ x. Makes (Ok form) x.form) (sym i.1.3) (can_make i.0 i.1.0 i.1.1, q ∙ ap (λ x. x.form) i.1.2)

@@ -1,7 +1,7 @@
 -- Private: a small task on which the tests reckon value forms.
 use Rattle.std.specs.Prelude.{[], ◌∷◌, Some, true, false, pos, codes}
-use Rattle.rational.specs.Rational.{ℚ, zeroℚ, whole}
-use Rattle.exact_lin.specs.Forms.{LinearForm, constant_form, plus_constant, plus_term}
+use Rattle.rational.specs.Rational.{zeroℚ, whole}
+use Rattle.exact_lin.specs.Forms.{constant_form, plus_constant, plus_term}
 use Rattle.task_types.specs.declared.actions.Snap.{Snap}
 use Rattle.task_types.specs.declared.actions.SnapKind.TheVariants.{Start, End, Instant}
 use Rattle.task_types.specs.declared.conditions.Amount.{Amount}

@@ -1,12 +1,13 @@
 -- Believed: what value forms come to at a point, and that at times that agree with an ordering they are the values of
 -- fluents in the states of its timed plan.
-use Rattle.std.specs.Prelude.{ℕ, suc, ◌<◌, ◌≡◌, ◌⊎◌, true, false, IsTrue, List, length, Contains}
+use Rattle.std.specs.Prelude.{ℕ, suc, ◌<◌, ◌≤◌, ◌≡◌, ◌⊎◌, true, false, IsTrue, List, length, Contains}
 use Rattle.rational.specs.Rational.{ℚ}
 use Rattle.exact_lin.specs.Forms.{values_of}
 use Rattle.task_types.specs.declared.parts.Rules.{Rules}
 use Rattle.task_types.specs.declared.parts.TaskParts.{TaskParts}
 use Rattle.task_types.specs.declared.tokens.Token.{Token}
 use Rattle.task_types.specs.State.{State}
+use Rattle.task_types.specs.Tests.{total}
 use Rattle.task_types.specs.Course.{before, after, last_state}
 use Rattle.task_types.specs.Touch.{marks, bends, tokens}
 use Rattle.task_types.specs.Order.{Order, IsClosedOrdering}
@@ -15,15 +16,16 @@ use Rattle.task_types.specs.Valid.{ArePositive}
 use Rattle.task_types.specs.WellMade.{IsWellMade}
 use Rattle.ordering.specs.Along.{at_time}
 use Rattle.rate_ledger.specs.Sums.{sum_at}
-use Rattle.rate_ledger.specs.Entries.{snap_at, value_before, value_after, value_end}
+use Rattle.rate_ledger.specs.Entries.{snap_at, running_rates, entries, value_before, value_after, value_end}
 use Rattle.rate_ledger.specs.Carrying.{carried_by, Follow}
 use Rattle.rate_ledger.specs.Sights.{covers, Sees}
 
 -- At any point the value forms of a step are what the list carries to the step's time there, before the step and after
--- it.
+-- it; and the rate of a fluent after some steps is the sum of its rates of the actions that run then.
 pub record ValueFormsAreValues : Type 0 where
   pub before : (task : TaskParts) (steps : List ℕ) (x : ℕ → ℚ) (k f : ℕ) → Follow task steps → k < length steps → sum_at (value_before task steps k f) x ≡ (at_time (carried_by task steps x k) (x k)).fluents f
   pub after : (task : TaskParts) (steps : List ℕ) (x : ℕ → ℚ) (k f : ℕ) → Follow task steps → k < length steps → sum_at (value_after task steps k f) x ≡ (at_time (carried_by task steps x (suc k)) (x k)).fluents f
+  pub rate : (task : TaskParts) (steps : List ℕ) (k f : ℕ) → Follow task steps → k ≤ length steps → (entries task steps k f).rate ≡ total (running_rates task steps k f)
 
 -- Times agree with a closed ordering of a well made task.
 pub record AreInTime (task : TaskParts) (rules : Rules) (o : Order) (times : List ℚ) : Type 0 where

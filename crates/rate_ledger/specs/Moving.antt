@@ -1,8 +1,8 @@
 -- Private: forms moved to a time, and forms with a duration, as the functions inside make them.
-use Rattle.std.specs.Prelude.{ℕ, Bool, true, false, List, [], ◌∷◌}
+use Rattle.std.specs.Prelude.{ℕ, ◌==◌, Bool, true, false, Option, Some, None, List, [], ◌∷◌}
 use Rattle.rational.specs.Rational.{ℚ, neg_ℚ}
 use Rattle.exact_lin.specs.Reckoning.{wide_limit}
-use Rattle.exact_lin.specs.Forms.{LinearForm, plus_term, CanAddTerm}
+use Rattle.exact_lin.specs.Forms.{LinearForm, constant_form, plus_term, CanAddTerm}
 use Rattle.rate_ledger.specs.declared.changes.Change.{Change}
 
 -- what was changed, moved to the time of a variable
@@ -29,3 +29,25 @@ spanned_form form d (s ∷ rest) = plus_term (plus_term form s.1 d) s.0 (neg_ℚ
 abbrev pub CanSpan : LinearForm → ℚ → List (ℕ × ℕ) → Type 0
 CanSpan form d [] = Unit {0}
 CanSpan form d (s ∷ rest) = CanAddTerm wide_limit form s.1 d × CanAddTerm wide_limit (plus_term form s.1 d) s.0 (neg_ℚ d)
+
+-- ---- what the last change of a fluent tells, if there is one; q is what the fluent has at first
+
+abbrev pub form_before : ℚ → Option Change → ℕ → LinearForm
+form_before q None k = constant_form q
+form_before q (Some c) k = moved_form c k
+
+abbrev pub CanTellBefore : Option Change → ℕ → Type 0
+CanTellBefore None k = Unit {0}
+CanTellBefore (Some c) k = CanMove c k
+
+abbrev pub form_after : ℚ → Option Change → ℕ → LinearForm
+form_after q None k = constant_form q
+form_after q (Some c) k = left_form (c.step == k) c k
+
+abbrev pub CanTellAfter : Option Change → ℕ → Type 0
+CanTellAfter None k = Unit {0}
+CanTellAfter (Some c) k = CanLeave (c.step == k) c k
+
+abbrev pub form_end : ℚ → Option Change → LinearForm
+form_end q None = constant_form q
+form_end q (Some c) = c.form

@@ -10,7 +10,7 @@ use Rattle.task_types.specs.declared.actions.SnapKind.{SnapKind}
 use Rattle.task_types.specs.Plan.{action_of, snap_of}
 use Rattle.task_types.specs.Touch.{is_start_or_end}
 use Rattle.task_types.specs.Order.{running}
-use Rattle.rate_ledger.specs.declared.ledgers.Ledger.{Ledger}
+use Rattle.rate_ledger.specs.declared.list_ledgers.ListLedger.{ListLedger}
 use Rattle.rate_ledger.specs.declared.nexts.Next.{Next}
 use Rattle.rate_ledger.specs.Sums.{form_of, CanMake}
 use Rattle.rate_ledger.specs.Entries.{snap_at, amount_sum, value_before}
@@ -51,7 +51,7 @@ abbrev pub CanMakeAmounts : TaskParts → List ℕ → ℕ → List (ℕ × Amou
 CanMakeAmounts task steps k es = AllByRecursion (λ e. CanMake (amount_sum task steps k (value_before task steps k) e.1)) es
 
 -- It is the next step of a ledger, with the amounts of its effects and the actions that run after it.
-pub record IsNext (task : TaskParts) (l : Ledger) (n : Next) : Type 0 where
+pub record IsNext (task : TaskParts) (l : ListLedger) (n : Next) : Type 0 where
   pub step : n.step ≡ length l.changes
   pub running : n.running ≡ running task (take (n.step + 1) l.steps)
   pub assigns : n.assigns ≡ map (amount_of task l.steps n.step) (snap_at task l.steps n.step).effect.assigns

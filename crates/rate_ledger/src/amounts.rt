@@ -15,7 +15,7 @@ ghost use Rattle.rate_ledger.specs.Reckoned.{AreDefined, change_made, rate_made}
 
 use crate::changes::Change;
 use crate::forms::{StepForm, with_scaled};
-use crate::ledgers::Ledger;
+use crate::list_ledgers::ListLedger;
 use crate::nexts::Next;
 use crate::rates::rate_of;
 use crate::snaps::rates_of;
@@ -82,8 +82,8 @@ fn is_bent(task: &Task, snap: &Snap, fluent: FluentId) -> bool
     }
 }
 
-// Whether a step changes a fluent or its rate.
-fn is_changed(task: &Task, snap: &Snap, fluent: FluentId) -> bool
+/// Whether a step changes a fluent or its rate.
+pub fn is_changed(task: &Task, snap: &Snap, fluent: FluentId) -> bool
     ensures { result ≡ changes task.now.parts snap.now fluent }
 {
     either(is_written(snap, fluent), is_bent(task, snap, fluent))
@@ -156,7 +156,7 @@ fn changed_form(value: StepForm, next: &Next, fluent: FluentId) -> Result<StepFo
 
 // The rate of a fluent from the next step on.
 fn changed_rate(
-    ledger: &Ledger,
+    ledger: &ListLedger,
     alloc: Global,
     task: &Task,
     next: &Next,
@@ -176,7 +176,7 @@ fn changed_rate(
 
 // What the next step makes of a fluent that it changes.
 fn change(
-    ledger: &Ledger,
+    ledger: &ListLedger,
     alloc: Global,
     task: &Task,
     next: &Next,
@@ -203,7 +203,7 @@ fn change(
 // Puts what the next step makes of a fluent at the end, where it changes it.
 fn push_change(
     out: &mut Items<Change>,
-    ledger: &Ledger,
+    ledger: &ListLedger,
     alloc: Global,
     task: &Task,
     next: &Next,
@@ -233,7 +233,7 @@ fn push(out: &mut Items<Change>, made: Change) -> Result<(), FormFault>
 
 /// What the next step makes of each fluent that it changes.
 pub fn changes_at(
-    ledger: &Ledger,
+    ledger: &ListLedger,
     alloc: Global,
     task: &Task,
     next: &Next,

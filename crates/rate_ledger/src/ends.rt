@@ -9,7 +9,7 @@ ghost use Rattle.task_types.specs.Order.{running};
 ghost use Rattle.rate_ledger.specs.Entries.{first_end, place_of, end_variable, own_start};
 
 use crate::snaps::{end_of, snap_of, start_of};
-use exact_lin::{ActionId, Id, SnapId, VarId};
+use exact_lin::{ActionId, Id, SnapId, StepId, VarId};
 use task_types::{SnapKind, Task};
 
 fn ends(task: &Task, action: ActionId, step: SnapId) -> bool
@@ -85,6 +85,25 @@ fn last_start(task: &Task, action: ActionId, steps: &[SnapId]) -> usize
     found
 }
 
+/// The step that started the action of a start or an end, with that action.
+pub fn own_start(task: &Task, steps: &[SnapId], step: usize) -> Option<(StepId, ActionId)>
+    requires step { step < length steps.now }
+    requires in_range { AllByRecursion (λ s. s < length task.now.parts.snaps) steps.now }
+    requires few { length steps.now < 2 ^ 32 }
+    ensures value { option_to_list result ≡ own_start task.now.parts steps.now step }
+    ensures early { IfSome result (λ own. own.0 ≤ step) }
+{
+    let snap = snap_of(task, steps[step]);
+    let action = snap.action?;
+    let start = match snap.kind {
+        SnapKind::Start => step,
+        SnapKind::End => last_start(task, action, &steps[..step]),
+        SnapKind::Instant => return None,
+        SnapKind::Timed => return None,
+    };
+    Some((StepId::of(start as u32), action))
+}
+
 /// The variables of the start and of the end of the action that a step starts or ends.
 pub fn span(
     task: &Task,
@@ -98,14 +117,7 @@ pub fn span(
     requires few { length steps.now + length pending.now < 2 ^ 32 }
     ensures { option_to_list result ≡ map (λ own. (own.0, end_variable task.now.parts steps.now own.0 own.1)) (own_start task.now.parts steps.now step) }
 {
-    let snap = snap_of(task, steps[step]);
-    let action = snap.action?;
-    let start = match snap.kind {
-        SnapKind::Start => step,
-        SnapKind::End => last_start(task, action, &steps[..step]),
-        SnapKind::Instant => return None,
-        SnapKind::Timed => return None,
-    };
-    let end = end_variable(task, steps, pending, start, action);
-    Some((VarId::of(start as u32), end))
+    let own = own_start(task, steps, step)?;
+    let end = end_variable(task, steps, pending, own.0.number() as usize, own.1);
+    Some((VarId::of(own.0.number()), end))
 }

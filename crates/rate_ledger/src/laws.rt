@@ -3,7 +3,7 @@
 ghost use Rattle.rate_ledger.specs.Laws.{ValueFormsAreValues, ValueFormsAreStates};
 
 /// At any point, whether the times that it gives agree with anything or not, the value forms of a step are what the
-/// steps so far carry to its time.
+/// steps so far carry to its time; and a fluent's rate is the sum of its rates of the actions that run.
 pub fn value_forms_are_values()
     ensures { ValueFormsAreValues }
 {}

@@ -1,22 +1,21 @@
-//! A ledger of a list of steps: what each step that was taken changed.
+//! A ledger of a list of steps that grows.
 
-ghost use Rattle.std.specs.Prelude.{◌<◌, ◌^◌, length};
+ghost use Rattle.std.specs.Prelude.{◌≡◌, length};
 
-mod building;
-mod values;
+mod growing;
 
-use crate::changes::Change;
-use exact_lin::{ActionId, SnapId};
+use crate::list_ledgers::ListLedger;
+use exact_lin::Fraction;
 use sqlite_items::Items;
+use std::alloc::Global;
 
-/// The value forms of the fluents of a task along a list of steps. Variable k is the time of step k of the whole list;
-/// after the steps come the times of the ends that are still to come, in the order of the starts of their actions. Steps
-/// are taken one by one, and what each changes is kept.
+/// The value forms of the fluents of a task along a list of steps that grows. Variable k is the time of step k of the
+/// list so far; after the steps come the times of the ends that are still to come, in the order of the starts of their
+/// actions. So each step that is pushed gives those ends other numbers, and all forms are made anew.
 #[derive(Drop)]
 pub struct Ledger {
-    pub steps: Items<SnapId>,
-    pub pending: Items<ActionId>,
-    pub running: Items<ActionId>,
-    pub changes: Items<Items<Change>>,
-    pub ghost few: { length steps < 2 ^ 31 },
+    pub alloc: Global,
+    pub first: Items<Fraction>,
+    pub taken: ListLedger,
+    pub ghost whole: { length taken.changes ≡ length taken.steps },
 }

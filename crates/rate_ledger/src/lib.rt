@@ -7,13 +7,18 @@ mod ends;
 mod forms;
 pub mod laws;
 mod ledgers;
+mod list_ledgers;
 mod nexts;
 mod rates;
+mod readings;
 mod running;
 mod snaps;
 #[cfg(test)]
 mod tests;
 mod whens;
 
+pub use amounts::is_changed;
+pub use forms::with_term;
 pub use ledgers::Ledger;
+pub use list_ledgers::ListLedger;
 pub use whens::When;

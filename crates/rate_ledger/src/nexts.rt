@@ -8,7 +8,7 @@ ghost use Rattle.rate_ledger.specs.Picking.{amount_of, CanMakeAmounts, IsNext};
 
 use crate::ends::span;
 use crate::forms::{StepForm, with_span};
-use crate::ledgers::Ledger;
+use crate::list_ledgers::ListLedger;
 use crate::running::run_on;
 use crate::whens::When;
 use exact_lin::{ActionId, FluentId, FormFault, Id, NoMemory, StepId, VarId};
@@ -28,7 +28,7 @@ pub struct Next {
 
 // The form of an amount: its form over the values before the step, then its factor times the duration.
 fn amount(
-    ledger: &Ledger,
+    ledger: &ListLedger,
     alloc: Global,
     task: &Task,
     span: &Option<(VarId, VarId)>,
@@ -57,7 +57,7 @@ fn push(
 
 // The forms of some amounts, each with its fluent.
 fn amounts(
-    ledger: &Ledger,
+    ledger: &ListLedger,
     alloc: Global,
     task: &Task,
     span: &Option<(VarId, VarId)>,
@@ -78,7 +78,7 @@ fn amounts(
 }
 
 /// The next step of a ledger.
-pub fn next_step(ledger: &Ledger, alloc: Global, task: &Task) -> Result<Next, FormFault>
+pub fn next_step(ledger: &ListLedger, alloc: Global, task: &Task) -> Result<Next, FormFault>
     requires keeps { Keeps task.now.parts ledger.now }
     requires next { length ledger.now.changes < length ledger.now.steps }
     ensures { Gives result (CanMakeAmounts task.now.parts ledger.now.steps (length ledger.now.changes) ((snap_at task.now.parts ledger.now.steps (length ledger.now.changes)).effect.assigns ++ (snap_at task.now.parts ledger.now.steps (length ledger.now.changes)).effect.increases))

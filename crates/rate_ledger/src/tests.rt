@@ -4,10 +4,10 @@
 ghost use Rattle.std.specs.Prelude.{◌≡◌, ◌∷◌, [], ◌≤◌, IfOk, Some, length};
 ghost use Rattle.task_types.specs.Examples.{always_true as always};
 ghost use Rattle.rate_ledger.specs.ExampleTask.{filling, starts, ends as ending, sets, while_filling, when_filled, ten, works, levels as levelling};
-ghost use Rattle.rate_ledger.specs.Ledgers.{Keeps};
+ghost use Rattle.rate_ledger.specs.Ledgers.{Keeps, IsLedgerOf};
 
 use crate::forms::StepForm;
-use crate::{Ledger, When};
+use crate::{Ledger, ListLedger, When};
 use exact_lin::{
     ActionId, FluentId, Form, FormFault, Fraction, Id, NoMemory, Scalar, SnapId, StepId, VarId,
 };
@@ -262,7 +262,7 @@ fn task(alloc: Global) -> Result<Task, FormFault>
 }
 
 // The fill with the set between its ends, all steps taken.
-fn filled(alloc: Global, task: &Task) -> Result<Ledger, FormFault>
+fn filled(alloc: Global, task: &Task) -> Result<ListLedger, FormFault>
     requires { task.now.parts ≡ filling }
     ensures keeps { IfOk result (λ l. Keeps task.now.parts l) }
     ensures taken { IfOk result (λ l. (length l.steps ≡ 3) × (length l.changes ≡ 3)) }
@@ -273,14 +273,26 @@ fn filled(alloc: Global, task: &Task) -> Result<Ledger, FormFault>
     Ok(ledger)
 }
 
-fn begun(alloc: Global, task: &Task) -> Result<Ledger, FormFault>
+fn begun(alloc: Global, task: &Task) -> Result<ListLedger, FormFault>
     requires { task.now.parts ≡ filling }
     ensures keeps { IfOk result (λ l. Keeps task.now.parts l) }
     ensures taken { IfOk result (λ l. (length l.steps ≡ 3) × (length l.changes ≡ 1)) }
 {
     let steps = [SnapId::of(0), SnapId::of(2), SnapId::of(1)];
-    let mut ledger = Ledger::new(alloc, task, &steps)?;
+    let mut ledger = ListLedger::new(alloc, task, &steps)?;
     ledger.push(alloc, task)?;
+    Ok(ledger)
+}
+
+// The fill begun, and the set, pushed one by one.
+fn grown(alloc: Global, task: &Task) -> Result<Ledger, FormFault>
+    requires { task.now.parts ≡ filling }
+    ensures ledger { IfOk result (λ l. IsLedgerOf task.now.parts l) }
+    ensures steps { IfOk result (λ l. l.taken.steps ≡ 0 ∷ 2 ∷ []) }
+{
+    let mut ledger = Ledger::new(alloc, task)?;
+    ledger.push(task, SnapId::of(0))?;
+    ledger.push(task, SnapId::of(2))?;
     Ok(ledger)
 }
 
@@ -354,4 +366,25 @@ fn a_form_is_put_into_values(rt: HostRuntime) {
         .put(rt.alloc(), &task, &form, &When::AtEnd)
         .expect(&rt, "a form");
     assert!(&rt; is_form(&last, 10, [-20, -2, 22]));
+}
+
+#[test]
+fn an_end_to_come_has_the_last_number(rt: HostRuntime) {
+    let task = task(rt.alloc()).expect(&rt, "a task");
+    let level = FluentId::of(0);
+    let work = FluentId::of(1);
+    let mut ledger = grown(rt.alloc(), &task).expect(&rt, "a ledger");
+    let started = ledger
+        .value_after(work, StepId::of(0))
+        .expect(&rt, "a form");
+    assert!(&rt; is_form(&started, 0, [-7, 0, 7]));
+    let moved = ledger
+        .value_before(level, StepId::of(1))
+        .expect(&rt, "a form");
+    assert!(&rt; is_form(&moved, 3, [-2, 2, 0]));
+    assert!(&rt; ledger.rate(level) == Fraction::of_int(2));
+    ledger.push(&task, SnapId::of(1)).expect(&rt, "a step");
+    let last = ledger.value_end(work).expect(&rt, "a form");
+    assert!(&rt; is_form(&last, 10, [-10, -2, 12]));
+    assert!(&rt; ledger.rate(level) == Fraction::of_int(0));
 }

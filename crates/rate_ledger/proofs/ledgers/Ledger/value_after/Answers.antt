@@ -1,19 +1,9 @@
-use Rattle.std.proofs.Common.{◌≡◌, ap, ap₂, ◌∙◌, suc, ◌+◌, arith}
-use Rattle.exact_lin.specs.Forms.{constant_form}
-use Rattle.rate_ledger.specs.Ledgers.{latest}
-use Rattle.rate_ledger.proofs.Told.{never_after, left_after}
+use Rattle.std.proofs.Common.{◌∙◌, arith}
+use Rattle.rate_ledger.proofs.Told.{after_made}
+use Rattle.rate_ledger.proofs.WholeLists.{first_is}
 use Rattle.rate_ledger.proofs.ledgers.Ledger.value_after.Goals as goal
 
-pub returns-in-Some : goal.returns-in-Some
-returns-in-Some c =
-    let next : c.number.result + 1 ≡ suc c.args.step = omega (arith, c.number.ensures) in
-    left_after c.args.task.now.parts c.args.task.now.well_made c.args.self.now c.requires.keeps c.args.fluent c.left.result c.args.step c.in-Some.change.now c.requires.told
-    (c.in-Some.ensures ∙ ap₂ (latest c.args.fluent) c.as_slice.ensures next)
-    c.left.ensures
-
-pub returns-in-None : goal.returns-in-None
-returns-in-None c =
-    let next : c.number.result + 1 ≡ suc c.args.step = omega (arith, c.number.ensures) in
-    never_after c.args.task.now.parts c.args.task.now.well_made c.args.self.now c.requires.keeps c.args.fluent c.args.step c.constant.result c.requires.told
-    (c.in-None.ensures ∙ ap₂ (latest c.args.fluent) c.as_slice.ensures next)
-    (c.constant.ensures ∙ ap constant_form c.initial_value.ensures)
+pub returns : goal.returns
+returns c = λ task w l.
+    after_made task w c.args.self.now.taken l.keeps c.args.fluent c.form_after.result c.args.step c.as_slice.result.now c.first_value.result (omega (arith, c.requires, c.args.self.now.whole)) c.as_slice.ensures
+    (c.first_value.ensures ∙ first_is task c.args.self.now l.first c.args.fluent) c.form_after.ensures
