@@ -50,9 +50,10 @@ fn actions_stand_in_the_order_of_their_objects(rt: HostRuntime) {
         (b"load", [3, 2, 0]),
     ];
     for (k, (name, args)) in wanted.into_iter().enumerate() {
-        assert!(rt; task
-            .as_ref()
-            .and_then(|task| task.actions().get(k))
-            .is_some_and(|action| is_action(action, name, args.as_slice())));
+        assert!(rt;
+            task.as_ref()
+                .and_then(|task| task.actions().get(k))
+                .is_some_and(|action| is_action(action, name, args.as_slice()))
+        );
     }
 }

@@ -49,17 +49,38 @@ fn moments_are_steps_and_preferences_terms(rt: HostRuntime) {
         (
             b"(define (domain gate) (:predicates (open) (through)) (:durative-action pass :duration (= ?duration 5) :condition (over all (open)) :effect (at end (through))))".as_slice(),
             b"(define (problem g) (:domain gate) (:init (at 5 (open)) (at 10 (not (open)))) (:goal (through)))".as_slice(),
-            Size { facts: 2, fluents: 0, actions: 1, snaps: 4, timed: 2, soft: 0 },
+            Size {
+                facts: 2,
+                fluents: 0,
+                actions: 1,
+                snaps: 4,
+                timed: 2,
+                soft: 0,
+            },
         ),
         (
             b"(define (domain work) (:predicates (done)) (:durative-action work :duration (= ?duration 5) :effect (at end (done))))",
             b"(define (problem k) (:domain work) (:init) (:goal (done)) (:constraints (preference late (within 4 (done)))) (:metric minimize (+ (total-time) (* 3 (is-violated late)))))",
-            Size { facts: 1, fluents: 0, actions: 1, snaps: 2, timed: 0, soft: 1 },
+            Size {
+                facts: 1,
+                fluents: 0,
+                actions: 1,
+                snaps: 2,
+                timed: 0,
+                soft: 1,
+            },
         ),
         (
             b"(define (domain spots) (:types spot) (:predicates (tidy ?x - spot)))",
             b"(define (problem s) (:domain spots) (:objects a b - spot) (:init) (:goal (forall (?x - spot) (preference clean (tidy ?x)))) (:metric minimize (* 2 (is-violated clean))))",
-            Size { facts: 2, fluents: 0, actions: 0, snaps: 0, timed: 0, soft: 2 },
+            Size {
+                facts: 2,
+                fluents: 0,
+                actions: 0,
+                snaps: 0,
+                timed: 0,
+                soft: 2,
+            },
         ),
     ] {
         assert!(rt; size_of(rt.alloc(), domain, problem) == Some(size));

@@ -3,7 +3,8 @@
 use super::answers;
 use std::test::Fail;
 
-const ROVER_DOMAIN: &str = "; A rover drives on its battery, which drains as it goes and charges at a dock.
+const ROVER_DOMAIN: &str =
+    "; A rover drives on its battery, which drains as it goes and charges at a dock.
 (define (domain rover)
 (:requirements :typing :fluents :durative-actions :duration-inequalities :continuous-effects)
 (:types place)
@@ -28,7 +29,8 @@ const ROVER_DOMAIN: &str = "; A rover drives on its battery, which drains as it 
   :effect (increase (battery) (* #t 5))))
 ";
 
-const ROVER_PROBLEM: &str = "; Ways that aren't told aren't there: no road leads from the base to the lake.
+const ROVER_PROBLEM: &str =
+    "; Ways that aren't told aren't there: no road leads from the base to the lake.
 (define (problem lake)
 (:domain rover)
 (:objects base hill lake - place)
@@ -53,7 +55,8 @@ const ROVER_INVALID: &str = "; Two minutes at the dock give 14, and the way to t
 8.001: (drive hill lake) [9]
 ";
 
-const PLANT_DOMAIN: &str = "; A tank between two pumps: one fills it, the other delivers from it, and both may run at once.
+const PLANT_DOMAIN: &str =
+    "; A tank between two pumps: one fills it, the other delivers from it, and both may run at once.
 (define (domain plant)
 (:requirements :fluents :durative-actions :duration-inequalities :continuous-effects)
 (:predicates (inflow-off) (outflow-off))
@@ -84,17 +87,20 @@ const PLANT_PROBLEM: &str = "(define (problem shift)
 (:metric minimize (total-time)))
 ";
 
-const PLANT_VALID: &str = "; The level goes from 5 to 8 while the first pump runs alone, to 17 while both run, and to 15 at the end.
+const PLANT_VALID: &str =
+    "; The level goes from 5 to 8 while the first pump runs alone, to 17 while both run, and to 15 at the end.
 0: (fill) [10]
 1: (deliver) [10]
 ";
 
-const PLANT_INVALID: &str = "; The first pump runs alone for too long: the level passes 20 at time 5, at no start or end of an action.
+const PLANT_INVALID: &str =
+    "; The first pump runs alone for too long: the level passes 20 at time 5, at no start or end of an action.
 0: (fill) [8]
 6: (deliver) [10]
 ";
 
-const TELESCOPE_DOMAIN: &str = "; An instrument observes one target after another, each in sunlight alone.
+const TELESCOPE_DOMAIN: &str =
+    "; An instrument observes one target after another, each in sunlight alone.
 (define (domain telescope)
 (:requirements :typing :durative-actions)
 (:types target)
@@ -121,7 +127,8 @@ const TELESCOPE_PROBLEM: &str = "; The sun shines from 5 to 10 and from 20 to 25
 (:goal (and (seen north) (seen south))))
 ";
 
-const TELESCOPE_VALID: &str = "; Both observations touch the edge of their window: a condition over all is asked strictly inside.
+const TELESCOPE_VALID: &str =
+    "; Both observations touch the edge of their window: a condition over all is asked strictly inside.
 5: (observe north) [4]
 21: (observe south) [4]
 ";
@@ -147,7 +154,8 @@ const PARCELS_DOMAIN: &str = "; A courier carries parcels from place to place.
     (at end (delivered ?to)))))
 ";
 
-const PARCELS_PROBLEM: &str = "; Market and school have to be served, the harbour would be nice. The school would like its lunch by 10. What a later
+const PARCELS_PROBLEM: &str =
+    "; Market and school have to be served, the harbour would be nice. The school would like its lunch by 10. What a later
 ; lunch costs is told in pieces: nothing up to 10, from 2 to 12 up to 20, and 20 from there on.
 (define (problem morning)
 (:domain parcels)
@@ -169,18 +177,21 @@ const PARCELS_PROBLEM: &str = "; Market and school have to be served, the harbou
   (time-cost lunch))))
 ";
 
-const PARCELS_VALID: &str = "; Lunch comes at 14.001, which breaks `early` and costs 2 + 4.001; the harbour is served by 25.002.
+const PARCELS_VALID: &str =
+    "; Lunch comes at 14.001, which breaks `early` and costs 2 + 4.001; the harbour is served by 25.002.
 0: (carry depot market) [6]
 6.001: (carry market school) [8]
 14.002: (carry school harbour) [11]
 ";
 
-const PARCELS_INVALID: &str = "; The harbour is a preference and the school a goal, so this isn't cheap but wrong.
+const PARCELS_INVALID: &str =
+    "; The harbour is a preference and the school a goal, so this isn't cheap but wrong.
 0: (carry depot market) [6]
 6.001: (carry market harbour) [9]
 ";
 
-const CRANES_DOMAIN: &str = "; Two cranes hoist boxes from the quay to a deck that has room for one; a box is stowed before the next comes down.
+const CRANES_DOMAIN: &str =
+    "; Two cranes hoist boxes from the quay to a deck that has room for one; a box is stowed before the next comes down.
 (define (domain cranes)
 (:requirements :typing :durative-actions)
 (:types crane box)
@@ -208,14 +219,16 @@ const CRANES_PROBLEM: &str = "(define (problem quay)
 (:goal (and (stowed red) (stowed blue))))
 ";
 
-const CRANES_VALID: &str = "; What one step changes and the next reads is apart by epsilon, 1/1000, and not by more.
+const CRANES_VALID: &str =
+    "; What one step changes and the next reads is apart by epsilon, 1/1000, and not by more.
 0: (hoist left red) [3]
 0.002: (hoist right blue) [3]
 3.001: (stow red)
 3.003: (stow blue)
 ";
 
-const CRANES_INVALID: &str = "; Both cranes set down at one moment: each needs the deck free, and takes it.
+const CRANES_INVALID: &str =
+    "; Both cranes set down at one moment: each needs the deck free, and takes it.
 0: (hoist left red) [3]
 0: (hoist right blue) [3]
 3.001: (stow red)
@@ -244,7 +257,8 @@ const KILN_PROBLEM: &str = "(define (problem pot)
 (:goal (fired)))
 ";
 
-const KILN_VALID: &str = "; From 0 to 10 at 7 a minute takes 10/7, which has no decimal form. A third later, all is done at 37/21.
+const KILN_VALID: &str =
+    "; From 0 to 10 at 7 a minute takes 10/7, which has no decimal form. A third later, all is done at 37/21.
 1/3: (warm) [10/7]
 37/21: (fire)
 ";
